@@ -1,0 +1,4 @@
+pub mod Answer
+pub mod Facts
+pub mod Partings
+pub mod Within

@@ -1,0 +1,5 @@
+pub mod Decision
+pub mod Luma
+pub mod Chroma
+pub mod Answer
+pub mod Code

@@ -1,0 +1,57 @@
+// 8.7.2.5.3 and 8.7.2.5.6: how a luma segment is filtered.
+use crate::Line;
+use crate::LumaDecision;
+ghost use mathlib.Core.Path.{_≡_};
+ghost use Prim.Native.Nat.{_+_, _*_, _<_};
+ghost use Rattle.lines.specs.Answer.{caseOf};
+ghost use Rattle.lines.specs.Code.{absDiffN, dSamN};
+ghost use Rattle.lines.specs.Decision.{decision};
+
+// |x2 - 2 x1 + x0|
+fn side_activity(x2: u16, x1: u16, x0: u16) -> u32
+    ensures { λ r. ⌜ r ≡ absDiffN (x2 + x0) (2 * x1) ⌝ }
+    ensures { λ r. ⌜ r < 131072 ⌝ }
+{
+    ints::abs_diff((x2 as u32) + (x0 as u32), 2 * (x1 as u32))
+}
+
+// Whether one line is flat enough on both sides and across.
+fn d_sam(beta: u32, tc: u16, dpq: u32, p3: u16, p0: u16, q0: u16, q3: u16) -> bool
+    ensures { λ r. ⌜ r ≡ dSamN beta tc dpq p3 p0 q0 q3 ⌝ }
+{
+    let ends = ints::abs_diff(p3 as u32, p0 as u32) + ints::abs_diff(q0 as u32, q3 as u32);
+    let step = ints::abs_diff(p0 as u32, q0 as u32);
+    if dpq >= beta >> 2 {
+        return false;
+    }
+    if ends >= beta >> 3 {
+        return false;
+    }
+    step < (5 * (tc as u32) + 1) >> 1
+}
+
+// The decision for a segment, by its lines 0 and 3 alone; it holds for all four.
+pub fn luma_decision(beta: u16, tc: u16, l0: Line, l3: Line) -> LumaDecision
+    ensures { λ r. ⌜ r ≡ caseOf (decision beta tc l0 l3) ⌝ }
+{
+    let dp0 = side_activity(l0.p2, l0.p1, l0.p0);
+    let dq0 = side_activity(l0.q2, l0.q1, l0.q0);
+    let dp3 = side_activity(l3.p2, l3.p1, l3.p0);
+    let dq3 = side_activity(l3.q2, l3.q1, l3.q0);
+    let b = beta as u32;
+    if dp0 + dq0 + (dp3 + dq3) >= b {
+        return LumaDecision::Skip;
+    }
+    let side = (b + (b >> 1)) >> 3;
+    let weak = LumaDecision::Weak {
+        do_p1: dp0 + dp3 < side,
+        do_q1: dq0 + dq3 < side,
+    };
+    if !d_sam(b, tc, 2 * (dp0 + dq0), l0.p3, l0.p0, l0.q0, l0.q3) {
+        return weak;
+    }
+    if !d_sam(b, tc, 2 * (dp3 + dq3), l3.p3, l3.p0, l3.q0, l3.q3) {
+        return weak;
+    }
+    LumaDecision::Strong
+}
