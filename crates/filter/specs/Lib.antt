@@ -1,0 +1,7 @@
+pub mod Pass
+pub mod Kernel
+pub mod Segment
+pub mod Finished
+pub mod Bands
+pub mod Count
+pub mod Figures

@@ -1,0 +1,9 @@
+pub mod Plane
+pub mod Scale
+pub mod Picture
+pub mod Cell
+pub mod Slice
+pub mod Tile
+pub mod Ledger
+pub mod Accepted
+pub mod Cut

@@ -1,0 +1,33 @@
+// A picture's records: columns, cells, slices and tiles. The definitions that its specs hold are those of document 01, 'What a sheet
+// consists of', 'Refusal ledger' and 'The cut'.
+mod cells;
+mod columns;
+mod slices;
+mod tiles;
+
+pub use cells::cell_at;
+pub use cells::cell_number;
+pub use columns::CellColumn;
+pub use columns::ChromaColumn;
+pub use columns::CtbColumn;
+pub use columns::LumaColumn;
+pub use slices::slice_at;
+pub use tiles::tile_column;
+pub use tiles::tile_row;
+
+// One 4 by 4 luma block. The QP is held 64 more; bsv and bsh are the bS of the edge on its left and on its top side.
+pub struct Cell {
+    pub qp: u8,
+    pub flags: u8,
+    pub bsv: u8,
+    pub bsh: u8,
+    pub slice: u16,
+}
+
+// One slice's deblocking parameters. The offsets are held 6 more.
+pub struct Slice {
+    pub disabled: bool,
+    pub beta: u8,
+    pub tc: u8,
+    pub across: bool,
+}
