@@ -1,1 +1,3 @@
+pub mod Example
 pub mod Figures
+pub mod Leaves

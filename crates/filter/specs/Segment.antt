@@ -10,7 +10,7 @@ use Rattle.filter.specs.Kernel.{Filter, luma, chroma, tcOf}
 use Rattle.picture.specs.declared.Cell.{Cell}
 use Rattle.picture.specs.declared.Slice.{Slice}
 use Rattle.picture.specs.Cell.{bit, cellOfSample, qpOf}
-use Rattle.picture.specs.Picture.{Picture, Settings, largest}
+use Rattle.picture.specs.Picture.{Picture, Settings, largestAt}
 use Rattle.picture.specs.Scale.{Component, Y, Cb, Cr, samplingAcross, samplingDown, toLuma}
 use Rattle.picture.specs.Slice.{sliceAt}
 use Rattle.picture.specs.Tile.{sameTile}
@@ -45,17 +45,21 @@ slicesOpen p q sliceQ = (sliceQ .across || eqb (p .slice) (q .slice)) && not (sl
 unfoldable pub gate : Component → Direction → Cell → Cell → Slice → Bool → Bool
 gate c d p q sliceQ oneTile = edgeFlag d q && (leb (leastBs c) (bsOf d q) && (oneTile && slicesOpen p q sliceQ))
 
--- a segment's thresholds, by the offsets of Q's slice
-unfoldable pub filterOf : Settings → Component → Cell → Cell → Slice → ℕ → Filter
-filterOf t Y p q sliceQ bS =
-    luma
-    (lumaBeta (t .luma-depth) (averageQp (qpOf p) (qpOf q)) (sliceQ .beta ⊖ 6))
-    (lumaTc (t .luma-depth) (averageQp (qpOf p) (qpOf q)) (pos bS) (sliceQ .tc ⊖ 6))
-    (largest t Y)
-filterOf t Cb p q sliceQ bS =
-    chroma (chromaTc (t .format) (t .chroma-depth) (averageQp (qpOf p) (qpOf q)) (t .cb-offset) (sliceQ .tc ⊖ 6)) (largest t Cb)
-filterOf t Cr p q sliceQ bS =
-    chroma (chromaTc (t .format) (t .chroma-depth) (averageQp (qpOf p) (qpOf q)) (t .cr-offset) (sliceQ .tc ⊖ 6)) (largest t Cr)
+-- a luma segment's thresholds, by the offsets of Q's slice
+unfoldable pub lumaFilter : ℕ → Cell → Cell → Slice → ℕ → Filter
+lumaFilter depth p q sliceQ bS =
+    let qPL : ℤ = averageQp (qpOf p) (qpOf q) in
+    luma (lumaBeta depth qPL (sliceQ .beta ⊖ 6)) (lumaTc depth qPL (pos bS) (sliceQ .tc ⊖ 6)) (largestAt depth)
+
+-- a chroma segment's threshold, by the component's own offset
+unfoldable pub chromaFilter : ℕ → ℕ → ℤ → Cell → Cell → Slice → Filter
+chromaFilter format depth offset p q sliceQ =
+    chroma (chromaTc format depth (averageQp (qpOf p) (qpOf q)) offset (sliceQ .tc ⊖ 6)) (largestAt depth)
+
+abbrev pub filterOf : Settings → Component → Cell → Cell → Slice → ℕ → Filter
+filterOf t Y p q sliceQ bS = lumaFilter (t .luma-depth) p q sliceQ bS
+filterOf t Cb p q sliceQ bS = chromaFilter (t .format) (t .chroma-depth) (t .cb-offset) p q sliceQ
+filterOf t Cr p q sliceQ bS = chromaFilter (t .format) (t .chroma-depth) (t .cr-offset) p q sliceQ
 
 -- how the segment between the cells P and Q is filtered: none where the gate is closed or tC is 0 ("tc 0 leaves the segment alone")
 unfoldable pub between : Settings → List ℕ → Component → Direction → Cell → Cell → Bool → Option Filter

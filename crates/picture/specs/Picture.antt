@@ -59,8 +59,11 @@ depthOf t Cb = t .chroma-depth
 depthOf t Cr = t .chroma-depth
 
 -- "Largest sample: 2^depth − 1"
+abbrev pub largestAt : ℕ → ℕ
+largestAt depth = 2 ^ depth - 1
+
 abbrev pub largest : Settings → Component → ℕ
-largest t c = 2 ^ depthOf t c - 1
+largest t c = largestAt (depthOf t c)
 
 -- a component's original samples
 abbrev pub original : Picture → Component → Plane
