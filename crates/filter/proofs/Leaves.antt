@@ -3,16 +3,14 @@ use Prim.Native.Nat.{ℕ, _+_, _-_, _/_, _%_, _≤_, _<_, min}
 use mathlib.Core.Path.{_≡_, refl, sym, _∙_, ap, ap₂}
 use mathlib.Core.Bool.{Bool, true, false, cond, not, _&&_, _||_}
 use mathlib.Core.List.{List}
-use native.Mathlib.Omega.{arith}
 use borrow.Author.Tests.{le-leb, lt-leb, eq-eqb, ne-eqb}
 use lib.Dec.{eqb}
 use lib.IntN.{ℤ, pos}
 use Rattle.ints.specs.Int.{_⊖_}
-use Rattle.filter.specs.declared.SliceGate.{SliceGate}
 use Rattle.filter.specs.declared.SliceGate.the-variants.{Closed, Open}
 use Rattle.filter.specs.Answer.{sliceGate}
 use Rattle.filter.specs.Bands.{horizontalBandEnd}
-use Rattle.filter.specs.Kernel.{Filter, luma, chroma}
+use Rattle.filter.specs.Kernel.{luma, chroma}
 use Rattle.filter.specs.Segment.{slicesOpen, lumaFilter, chromaFilter}
 use Rattle.picture.specs.declared.Cell.{Cell}
 use Rattle.picture.specs.declared.Slice.{Slice}

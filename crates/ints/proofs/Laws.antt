@@ -1,14 +1,14 @@
 -- Every expression of naturals over ℤ is brought to the form `a ⊖ b`, and what is asked of such forms becomes a fact on naturals, for `omega`.
 use Prim.Native.Nat.{ℕ, zero, suc, _+_, _*_, _-_, _/_, _%_, _^_, _≤_, _<_, min, max}
 use mathlib.Core.Path.{_≡_, refl, sym, _∙_, ap, ap₂, subst}
-use mathlib.Core.Bool.{Bool, true, false, cond}
+use mathlib.Core.Bool.{Bool, true, false, cond, not}
 use mathlib.Core.Logic.{_⊎_, inl, inr}
 use native.Mathlib.Omega.{arith}
 use native.Mathlib.Nat.{mul-add, add-mul-div-right, div-eq-of-lt-le, div-add-mod', mod-lt, lt-of-mul-lt-mul-right}
 use lib.Pow.{pow-pos}
-use lib.Dec.{ltb}
-use lib.IntN.{ℤ, pos, negsuc, negℤ, subℕ, natAbs, _+ℤ_, _-ℤ_, _*ℤ_, +ℤ-assoc, +ℤ-comm, negℤ-+ℤ, pos-+ℤ-pos}
-use lib.Signed.{ltZ, shrZ}
+use lib.Dec.{T, ltb}
+use lib.IntN.{ℤ, pos, negsuc, negℤ, natAbs, _+ℤ_, _*ℤ_, +ℤ-assoc, +ℤ-comm, negℤ-+ℤ}
+use lib.Signed.{_≤ℤ_, ltZ, shrZ, ltZ-yes, ltZ-no, clashℤ}
 use borrow.Author.Tests.{lt-ltb, le-ltb, ltb-true, ltb-false}
 use Rattle.ints.specs.Int.{_⊖_, _⊞_, _⊟_, neg, _⊠_, lt, _>>_, clip3, abs, natOf}
 
@@ -238,3 +238,17 @@ clip-index-is m e f = ap natOf (clip-unit m e f)
 -- ---- Abs of a difference
 pub gap-is : (a b : ℕ) → abs (pos a ⊟ pos b) ≡ (a - b) + (b - a)
 gap-is a b = simp (diffs, abs-diff) (omega arith)
+
+-- ---- a failed test of order, and the library's order
+
+pub lt-false : (a b : ℤ) → lt a b ≡ false → b ≤ℤ a
+unfolding lt
+lt-false a b e = ltZ-no (subst (λ (t : Bool). T (not t)) (sym e) tt)
+
+pub le-lt : (a b : ℤ) → b ≤ℤ a → lt a b ≡ false
+unfolding lt
+le-lt a b h = go (ltZ a b) refl
+  where
+    go : (t : Bool) → ltZ a b ≡ t → t ≡ false
+    go true e = clashℤ (ltZ-yes (subst T (sym e) tt)) h
+    go false e = refl

@@ -1,12 +1,12 @@
 -- What the code computes in naturals is what the definitions say over the integers.
-use Prim.Native.Nat.{ℕ, _+_, _*_, _-_, _/_, _≤_, _<_, min, max}
+use Prim.Native.Nat.{ℕ, _+_, _*_, _-_, _/_, _≤_, _<_}
 use mathlib.Core.Path.{_≡_, refl, sym, _∙_, ap, ap₂}
 use mathlib.Core.Bool.{Bool, true, false, cond, not, _&&_}
 use native.Mathlib.Omega.{arith}
 use lib.Dec.{ltb}
 use lib.IntN.{ℤ, pos}
 use borrow.Author.Tests.{lt-ltb, le-ltb, not-true, not-false}
-use Rattle.ints.specs.Int.{_⊖_, _⊞_, _⊟_, neg, _⊠_, _>>_, clip3, abs, natOf}
+use Rattle.ints.specs.Int.{_⊞_, _⊟_, neg, _>>_, clip3, abs, natOf}
 use Rattle.ints.proofs.Laws.{diffs, naturals, times-pos, shr-pos, diff-eq, gap-is, abs-diff, neg-diff, shr-diff, clip-sym, clip-near, clip-unit}
 use Rattle.lines.specs.declared.Line.{Line}
 use Rattle.lines.specs.declared.ChromaLine.{ChromaLine}

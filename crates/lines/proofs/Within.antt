@@ -1,6 +1,6 @@
 -- The definitions end in naturals, by `natOf`: nothing is lost by that, and samples up to m stay up to m.
-use Prim.Native.Nat.{ℕ, _+_, _*_, _-_, _/_, _≤_, _<_, min, max}
-use mathlib.Core.Path.{_≡_, refl, sym, _∙_, ap, subst}
+use Prim.Native.Nat.{ℕ, _*_, _-_, _≤_}
+use mathlib.Core.Path.{_≡_, sym, _∙_, ap, subst}
 use mathlib.Core.Bool.{Bool, true, false, cond}
 use native.Mathlib.Omega.{arith}
 use lib.Dec.{ltb, eqb}
@@ -10,7 +10,6 @@ use Rattle.ints.proofs.Laws.{naturals, times-pos, by-diff, clip-unit, clip-near
 use Rattle.lines.specs.declared.Line.{Line}
 use Rattle.lines.specs.Decision.{Decision}
 use Rattle.lines.specs.Luma.{near, strongLine, delta0, clip1, second, weakBy, weakLine, lumaLine}
-use Rattle.lines.specs.Code.{nearN}
 use Rattle.lines.proofs.Facts.{near-is}
 
 -- Clip1 gives an integer that is not negative, and at most m

@@ -1,1 +1,4 @@
+pub mod Causes
+pub mod Example
+pub mod Ledger
 pub mod Records

@@ -1,6 +1,6 @@
 -- Cell and slice records read byte by byte, and the tiles' starts counted one by one.
-use Prim.Native.Nat.{ℕ, zero, suc, _+_, _*_, _≤_, _<_}
-use mathlib.Core.Path.{_≡_, refl, sym, _∙_, ap}
+use Prim.Native.Nat.{ℕ, _+_, _*_, _≤_, _<_}
+use mathlib.Core.Path.{_≡_, refl, _∙_, ap}
 use mathlib.Core.Bool.{Bool, true, false, cond}
 use mathlib.Core.List.{List, [], _∷_}
 use native.Mathlib.Numerals.{add-one}
@@ -9,10 +9,8 @@ use borrow.Author.Tests.{le-leb, lt-leb}
 use lib.Dec.{leb, eqb}
 use lib.ListN.{length, getD, drop}
 use lib.Seq.{drop-cons, drop-length}
-use Rattle.picture.specs.declared.Cell.{Cell}
-use Rattle.picture.specs.declared.Slice.{Slice}
 use Rattle.picture.specs.Cell.{cellAt}
-use Rattle.picture.specs.Slice.{sliceAt, sliceByte, sliceCount}
+use Rattle.picture.specs.Slice.{sliceAt, sliceCount}
 use Rattle.picture.specs.Tile.{tileOf}
 
 pub cell-made : (l : List ℕ) (n s : ℕ) → s ≡ getD l (8 * n + 4) 0 + 256 * getD l (8 * n + 5) 0

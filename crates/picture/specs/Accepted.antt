@@ -7,8 +7,7 @@ use lib.ListN.{length, getD}
 use lib.IntN.{ℤ, pos}
 use lib.Signed.{_≤ℤ_}
 use Rattle.ints.specs.Int.{_⊖_, neg}
-use Rattle.picture.specs.Cell.{cellByte}
-use Rattle.picture.specs.Ledger.{cellCount}
+use Rattle.picture.specs.Cell.{cellByte, cellCount}
 use Rattle.picture.specs.Picture.{Picture, Planes, Settings, planeOf, planeWidth, planeHeight, largest, ctbSize}
 use Rattle.picture.specs.Scale.{Component}
 use Rattle.picture.specs.Slice.{sliceByte, sliceCount}

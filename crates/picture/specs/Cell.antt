@@ -30,6 +30,10 @@ cellAt cells n = record {
 abbrev pub cellNumber : ℕ → ℕ → ℕ → ℕ
 cellNumber width column row = row * width + column
 
+-- how many cells a picture has
+abbrev pub cellCount : Picture → ℕ
+cellCount p = cellOf (p .width) * cellOf (p .height)
+
 -- the cell of the luma sample at column x and row y
 abbrev pub cellOfSample : Picture → ℕ → ℕ → Cell
 cellOfSample p x y = cellAt (p .cells) (cellNumber (cellOf (p .width)) (cellOf x) (cellOf y))

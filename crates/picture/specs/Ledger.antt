@@ -8,9 +8,9 @@ use lib.Dec.{leb, ltb, eqb}
 use lib.ListN.{length, getD}
 use lib.IntN.{ℤ, pos}
 use Rattle.ints.specs.Int.{_⊖_, neg, lt}
-use Rattle.picture.specs.Cell.{cellByte}
+use Rattle.picture.specs.Cell.{cellByte, cellCount}
 use Rattle.picture.specs.Picture.{Picture, Planes, Settings, planeOf, planeWidth, planeHeight, largest, ctbSize}
-use Rattle.picture.specs.Scale.{Component, Y, Cb, Cr, cellOf}
+use Rattle.picture.specs.Scale.{Component, Y, Cb, Cr}
 use Rattle.picture.specs.Slice.{sliceByte, sliceCount}
 use Rattle.picture.specs.Tile.{ctbCount}
 
@@ -62,16 +62,25 @@ abbrev pub cause1 : Picture → Cause
 cause1 p = once (badSize (p .width) ++ badSize (p .height))
 
 -- 2. "chroma format above 3"
+abbrev pub badFormat : Settings → List Bool
+badFormat t = ltb 3 (t .format) ∷ []
+
 abbrev pub cause2 : Settings → Cause
-cause2 t = once (ltb 3 (t .format) ∷ [])
+cause2 t = once (badFormat t)
 
 -- 3. "a depth outside 8 to 16 (both are checked in every format)"
+abbrev pub badDepths : Settings → List Bool
+badDepths t = ltb (t .luma-depth) 8 ∷ ltb 16 (t .luma-depth) ∷ ltb (t .chroma-depth) 8 ∷ ltb 16 (t .chroma-depth) ∷ []
+
 abbrev pub cause3 : Settings → Cause
-cause3 t = once (ltb (t .luma-depth) 8 ∷ ltb 16 (t .luma-depth) ∷ ltb (t .chroma-depth) 8 ∷ ltb 16 (t .chroma-depth) ∷ [])
+cause3 t = once (badDepths t)
 
 -- 4. "log2 CTB outside 4 to 6"
+abbrev pub badCtb : Settings → List Bool
+badCtb t = ltb (t .log2-ctb) 4 ∷ ltb 6 (t .log2-ctb) ∷ []
+
 abbrev pub cause4 : Settings → Cause
-cause4 t = once (ltb (t .log2-ctb) 4 ∷ ltb 6 (t .log2-ctb) ∷ [])
+cause4 t = once (badCtb t)
 
 -- 5. "a chroma offset outside −12 to 12 (in every format)"
 abbrev pub badOffset : ℤ → List Bool
@@ -86,9 +95,6 @@ badPlane p planes c = not (eqb (length (planeOf planes c)) (planeWidth p c * pla
 
 abbrev pub badPlanes : Picture → Planes → List Bool
 badPlanes p planes = badPlane p planes Y ∷ badPlane p planes Cb ∷ badPlane p planes Cr ∷ []
-
-abbrev pub cellCount : Picture → ℕ
-cellCount p = cellOf (p .width) * cellOf (p .height)
 
 abbrev pub badLists : Picture → List Bool
 badLists p =

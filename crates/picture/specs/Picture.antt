@@ -1,5 +1,5 @@
 -- Document 01, 'What a sheet consists of': a picture is its sheet.
-use Prim.Native.Nat.{ℕ, _*_, _-_, _/_, _^_}
+use Prim.Native.Nat.{ℕ, _-_, _^_}
 use mathlib.Core.Bool.{Bool}
 use mathlib.Core.List.{List}
 use lib.IntN.{ℤ}

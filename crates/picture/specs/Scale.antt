@@ -1,5 +1,6 @@
 -- How the samples of a plane, the 4 by 4 cells and the CTBs stand to luma samples, one direction at a time.
--- Document 01: "Luma columns, chroma columns, cell columns and CTB columns are separate counts".
+-- Document 01: "Luma columns, chroma columns, cell columns and CTB columns are separate counts .. and each gets its own type": the types are
+-- LumaColumn, ChromaColumn, CellColumn and CtbColumn of src/columns.rt, whose scalings are the functions here.
 use Prim.Native.Nat.{ℕ, _*_, _/_, _^_}
 use mathlib.Core.Bool.{cond}
 use lib.Dec.{eqb}
@@ -35,7 +36,7 @@ fromLuma whole n = n
 fromLuma halved n = n / 2
 fromLuma absent n = 0
 
--- and back: "chroma positions are scaled to luma by the format"
+-- and back: "chroma positions are scaled to luma by the format" (an absent plane has none to scale)
 abbrev pub toLuma : Sampling → ℕ → ℕ
 toLuma whole n = n
 toLuma halved n = 2 * n

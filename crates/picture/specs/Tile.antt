@@ -1,6 +1,6 @@
 -- The tiles of one direction, columns or rows: a list of starts in CTBs. Document 01: "Tile column starts (1 to 20) and row starts (1 to
 -- 22), in CTBs: first 0, rising, each below the number of CTBs that way (rounded up)."
-use Prim.Native.Nat.{ℕ, suc, _+_, _-_, _*_, _/_, _^_}
+use Prim.Native.Nat.{ℕ, suc, _+_, _-_, _*_, _/_}
 use mathlib.Core.Bool.{Bool, cond, _&&_}
 use mathlib.Core.List.{List, [], _∷_}
 use lib.Dec.{leb, ltb, eqb}
@@ -21,7 +21,8 @@ tileColumn p x = tileOf (p .columns) (ctbOf (p .settings .log2-ctb) x)
 abbrev pub tileRow : Picture → ℕ → ℕ
 tileRow p y = tileOf (p .rows) (ctbOf (p .settings .log2-ctb) y)
 
--- do the luma samples (px, py) and (qx, qy) lie in one tile?
+-- do the luma samples (px, py) and (qx, qy) lie in one tile? "Borders between tiles are closed. An open sheet passes one tile": with the
+-- starts 0 and 0 every sample has tile column 1 and tile row 1.
 unfoldable pub sameTile : Picture → ℕ → ℕ → ℕ → ℕ → Bool
 sameTile p px py qx qy = eqb (tileColumn p px) (tileColumn p qx) && eqb (tileRow p py) (tileRow p qy)
 

@@ -1,10 +1,8 @@
 -- Each table one row past both ends: what the definitions give at index -1, 0, last and last + 1. The code cannot read past an end:
 -- `beta_row`, `tc_row` and `qpc_row` require an index inside their table.
-use Prim.Native.Nat.{ℕ}
 use mathlib.Core.Path.{_≡_, refl}
-use mathlib.Core.List.{List, [], _∷_}
 use lib.ListN.{length}
-use lib.IntN.{ℤ, pos, negsuc}
+use lib.IntN.{pos, negsuc}
 use Rattle.ints.specs.Int.{_⊞_, _⊟_, neg, _⊠_, lt, clip3, natOf}
 use Rattle.thresholds.specs.Tables.{BETA, TC, QPC}
 use Rattle.thresholds.specs.Luma.{betaIndex, tcIndex, scaled, lumaBeta, lumaTc}

@@ -6,13 +6,13 @@ use mathlib.Core.List.{List, [], _∷_}
 use mathlib.Core.Logic.{_⊎_, inl, inr}
 use native.Mathlib.Omega.{arith}
 use native.Mathlib.Nat.{mul-le-mul}
-use lib.Dec.{leb, ltb, eqb}
+use lib.Dec.{leb, ltb}
 use lib.ListN.{getD}
 use lib.Pow.{pow-mono}
 use lib.IntN.{ℤ, pos}
 use borrow.Author.Tests.{leb-true, lt-ltb, le-ltb, eq-eqb, ne-eqb}
-use Rattle.ints.specs.Int.{_⊖_, _⊞_, _⊟_, neg, lt, _>>_, clip3, natOf}
-use Rattle.ints.proofs.Laws.{diffs, diff-eq, shr-diff, pos-diff, lt-diff, nat-diff, neg-diff, minus-diff, plus-diff, lt-pos, pos-lt, either, clip-diff, clip-index-is}
+use Rattle.ints.specs.Int.{_⊖_, _⊞_, _⊟_, lt, clip3, natOf}
+use Rattle.ints.proofs.Laws.{diffs, diff-eq, shr-diff, pos-diff, nat-diff, plus-diff, lt-pos, pos-lt, either, clip-diff, clip-index-is}
 use Rattle.thresholds.specs.Tables.{BETA, TC, QPC}
 use Rattle.thresholds.specs.Luma.{averageQp, betaIndex, tcIndex, scaled, lumaBeta, lumaTc}
 use Rattle.thresholds.specs.Chroma.{clippedIndex, tableQpc, mappedQp, chromaQp, chromaTc}

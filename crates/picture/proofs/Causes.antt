@@ -1,0 +1,170 @@
+-- The laws of the refusal ledger, for any causes: the first bad entry, the place of a cause, and the first cause that applies.
+use Prim.Native.Nat.{ℕ, zero, suc, _+_, _-_, _≤_, _<_}
+use mathlib.Core.Path.{_≡_, refl, sym, ap, _∙_}
+use mathlib.Core.Bool.{Bool, true, false, cond, not}
+use mathlib.Core.List.{List, [], _∷_}
+use mathlib.Core.Logic.{_⊎_, inl, inr}
+use native.Mathlib.Omega.{arith}
+use borrow.Author.Tests.{ltb-false, leb-false, eqb-true, lt-ltb, le-ltb, lt-leb, eq-eqb, not-false}
+use lib.Dec.{ltb, eqb}
+use Rattle.ints.proofs.Laws.{either, lt-false, le-lt}
+use Rattle.picture.specs.Ledger.{Verdict, acceptance, Cause, firstBad, placeOf, firstOf, anyOf, once, andThen}
+
+-- ---- tests that fail, and the facts that they leave
+
+pub eq-not : (m n : ℕ) → m ≡ n → not (eqb m n) ≡ false
+eq-not m n e = rw (eq-eqb m n e)
+
+pub not-eq : (m n : ℕ) → not (eqb m n) ≡ false → m ≡ n
+not-eq m n e = eqb-true m n (not-false (eqb m n) e)
+
+-- for `search`: from the failed test to the fact, and from the fact to the failed test
+pub ruleset to-fact = (ltb-false, leb-false, not-eq, lt-false)
+
+pub ruleset to-test = (le-ltb, lt-leb, eq-not, le-lt)
+
+abbrev pub NoneOf : List Bool → Type 0
+NoneOf [] = Unit {0}
+NoneOf (b ∷ r) = (b ≡ false) × NoneOf r
+
+pub none-out : (tests : List Bool) → anyOf tests ≡ false → NoneOf tests
+none-out [] e = tt
+none-out (true ∷ r) e = absurd (let z : _≡_ {A = ℕ} 0 1 = cc in omega arith)
+none-out (false ∷ r) e = (refl, none-out r e)
+
+pub none-in : (tests : List Bool) → NoneOf tests → anyOf tests ≡ false
+none-in [] h = refl
+none-in (b ∷ r) h = rw (h .0) (none-in r (h .1))
+
+-- ---- the first bad entry of n from k on
+
+-- where entry k + i stands before it, entry k is good
+before : (t : Bool) (k r i : ℕ) → k + i < cond t k r → (t ≡ false) × (k + i < r)
+before true k r i h = absurd (omega arith)
+before false k r i h = (refl, h)
+
+module _ (bad : ℕ → Bool) where
+  -- every entry before it is good
+  pub first-good : (k n i : ℕ) → k + i < firstBad bad k n → bad (k + i) ≡ false
+  first-good k zero i h = absurd (omega arith)
+  first-good k (suc n) zero h = ap bad (omega arith) ∙ before (bad k) k (firstBad bad (suc k) n) 0 h .0
+  first-good k (suc n) (suc i) h =
+      ap bad (omega arith) ∙ first-good (suc k) n i (omega (arith, before (bad k) k (firstBad bad (suc k) n) (suc i) h .1))
+
+  -- it is bad where it is not the end
+  pub first-bad : (k n : ℕ) → firstBad bad k n < k + n → bad (firstBad bad k n) ≡ true
+  first-bad k zero h = absurd (omega arith)
+  first-bad k (suc n) h = go (bad k) refl (first-bad (suc k) n) h
+    where
+      go : (t : Bool) → bad k ≡ t → (firstBad bad (suc k) n < suc k + n → bad (firstBad bad (suc k) n) ≡ true)
+          → cond t k (firstBad bad (suc k) n) < k + suc n → bad (cond t k (firstBad bad (suc k) n)) ≡ true
+      go true e ih h = e
+      go false e ih h = ih (omega arith)
+
+  -- it is the end where none is bad
+  pub first-from : (k n : ℕ) → ((i : ℕ) → i < n → bad (k + i) ≡ false) → firstBad bad k n ≡ k + n
+  first-from k zero h = omega arith
+  first-from k (suc n) h =
+      let good : bad k ≡ false = ap bad (omega arith) ∙ h 0 (omega arith) in
+      rw good (first-from (suc k) n (λ i hi. ap bad (omega arith) ∙ h (suc i) (omega arith)) ∙ omega arith)
+
+  -- it is the bad entry that only good ones precede
+  pub first-at : (k n i : ℕ) → i < n → ((j : ℕ) → j < i → bad (k + j) ≡ false) → bad (k + i) ≡ true → firstBad bad k n ≡ k + i
+  first-at k zero i hi h b = absurd (omega arith)
+  first-at k (suc n) zero hi h b =
+      let here : bad k ≡ true = ap bad (omega arith) ∙ b in
+      rw here (omega arith)
+  first-at k (suc n) (suc i) hi h b =
+      let good : bad k ≡ false = ap bad (omega arith) ∙ h 0 (omega arith) in
+      let next = first-at (suc k) n i (omega arith) (λ j hj. ap bad (omega arith) ∙ h (suc j) (omega arith)) (ap bad (omega arith) ∙ b) in
+      rw good (next ∙ omega arith)
+
+-- ---- the place of a cause
+
+-- a cause that does not apply
+abbrev pub Good : Cause → Type 0
+Good c = (k : ℕ) → k < c .count → c .bad k ≡ false
+
+module _ (c : Cause) where
+  pub place-good : (i : ℕ) → i < placeOf c → c .bad i ≡ false
+  place-good i h = ap (c .bad) (omega arith) ∙ first-good (c .bad) 0 (c .count) i (omega arith)
+
+  pub place-bad : placeOf c < c .count → c .bad (placeOf c) ≡ true
+  place-bad h = first-bad (c .bad) 0 (c .count) (omega arith)
+
+  pub place-end : Good c → placeOf c ≡ c .count
+  place-end h = first-from (c .bad) 0 (c .count) (λ i hi. ap (c .bad) (omega arith) ∙ h i hi) ∙ omega arith
+
+  pub place-at : (i : ℕ) → i < c .count → ((j : ℕ) → j < i → c .bad j ≡ false) → c .bad i ≡ true → placeOf c ≡ i
+  place-at i hi h b =
+      first-at (c .bad) 0 (c .count) i hi (λ j hj. ap (c .bad) (omega arith) ∙ h j hj) (ap (c .bad) (omega arith) ∙ b) ∙ omega arith
+
+  -- a cause that does not apply is passed over, and one that applies is returned
+  pub passed : (n : ℕ) (r : List Cause) → Good c → firstOf n (c ∷ r) ≡ firstOf (suc n) r
+  passed n r h = rw (le-ltb (placeOf c) (c .count) (omega (arith, place-end h)))
+
+  pub returned : (n : ℕ) (r : List Cause) → placeOf c < c .count → firstOf n (c ∷ r) ≡ record { number = n; place = placeOf c }
+  returned n r h = rw (lt-ltb (placeOf c) (c .count) h)
+
+-- a cause of place 0
+pub once-in : (tests : List Bool) → NoneOf tests → Good (once tests)
+once-in tests h k hk = none-in tests h
+
+pub once-out : (tests : List Bool) → Good (once tests) → NoneOf tests
+once-out tests h = none-out tests (h 0 (omega arith))
+
+-- two causes, the entries of one after those of the other
+module _ (c d : Cause) where
+  then-here : (k : ℕ) → k < c .count → andThen c d .bad k ≡ c .bad k
+  then-here k h = rw (lt-ltb k (c .count) h)
+
+  then-past : (k : ℕ) → andThen c d .bad (c .count + k) ≡ d .bad k
+  then-past k = rw (le-ltb (c .count + k) (c .count) (omega arith)) (ap (d .bad) (omega arith))
+
+  then-upto : Good c → (n : ℕ) → ((k : ℕ) → k < n → d .bad k ≡ false) → (k : ℕ) → k < c .count + n → andThen c d .bad k ≡ false
+  then-upto hc n hd k hk = go (either k (c .count))
+    where
+      go : (k < c .count) ⊎ (c .count ≤ k) → andThen c d .bad k ≡ false
+      go (inl l) = then-here k l ∙ hc k l
+      go (inr l) = ap (andThen c d .bad) (omega arith) ∙ then-past (k - c .count) ∙ hd (k - c .count) (omega arith)
+
+  pub then-in : Good c → Good d → Good (andThen c d)
+  then-in hc hd = then-upto hc (d .count) hd
+
+  pub then-out : Good (andThen c d) → Good c × Good d
+  then-out h = (λ k hk. sym (then-here k hk) ∙ h k (omega arith), λ k hk. sym (then-past k) ∙ h (c .count + k) (omega arith))
+
+  -- their place is the first's where that applies; else the second's, numbered on
+  pub then-first : placeOf c < c .count → placeOf (andThen c d) ≡ placeOf c
+  then-first h =
+      place-at (andThen c d) (placeOf c) (omega arith) (λ j hj. then-here j (omega arith) ∙ place-good c j hj) (then-here (placeOf c) h ∙ place-bad c h)
+
+  pub then-second : Good c → placeOf (andThen c d) ≡ c .count + placeOf d
+  then-second hc = go (either (placeOf d) (d .count))
+    where
+      go : (placeOf d < d .count) ⊎ (d .count ≤ placeOf d) → placeOf (andThen c d) ≡ c .count + placeOf d
+      go (inl l) =
+          place-at (andThen c d) (c .count + placeOf d) (omega arith) (then-upto hc (placeOf d) (place-good d)) (then-past (placeOf d) ∙ place-bad d l)
+      go (inr l) =
+          let hd : Good d = λ k hk. place-good d k (omega arith) in
+          place-end (andThen c d) (then-in hc hd) ∙ omega (arith, place-end d hd)
+
+-- ---- a list of causes
+
+abbrev pub AllGood : List Cause → Type 0
+AllGood [] = Unit {0}
+AllGood (c ∷ r) = Good c × AllGood r
+
+pub good-in : (n : ℕ) (l : List Cause) → AllGood l → firstOf n l ≡ acceptance
+good-in n [] h = refl
+good-in n (c ∷ r) h = passed c n r (h .0) ∙ good-in (suc n) r (h .1)
+
+skipped : (t : Bool) (n p : ℕ) (rest : Verdict) → cond t (record { number = suc n; place = p }) rest ≡ acceptance → (t ≡ false) × (rest ≡ acceptance)
+skipped true n p rest e = absurd (omega (arith, ap (λ (v : Verdict). v .number) e))
+skipped false n p rest e = (refl, e)
+
+pub good-out : (n : ℕ) (l : List Cause) → firstOf (suc n) l ≡ acceptance → AllGood l
+good-out n [] e = tt
+good-out n (c ∷ r) e =
+    let (end, rest) = skipped (ltb (placeOf c) (c .count)) n (placeOf c) (firstOf (suc (suc n)) r) e in
+    (λ k hk. place-good c k (omega (arith, ltb-false (placeOf c) (c .count) end)), good-out (suc n) r rest)
