@@ -1,0 +1,6 @@
+pub mod Bands
+pub mod Index
+pub mod Parts
+pub mod Strips
+pub mod Turn
+pub mod Windows
