@@ -7,3 +7,4 @@ pub mod Tile
 pub mod Ledger
 pub mod Accepted
 pub mod Cut
+pub mod Given

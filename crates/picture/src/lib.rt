@@ -15,6 +15,19 @@ pub use slices::slice_at;
 pub use tiles::tile_column;
 pub use tiles::tile_row;
 
+// A picture's sizes and settings, as a caller gives them; nothing is in range until it was checked.
+pub struct Settings {
+    pub width: u32,
+    pub height: u32,
+    pub chroma_format: u32,
+    pub luma_depth: u32,
+    pub chroma_depth: u32,
+    pub log2_ctb: u32,
+    pub cb_qp_offset: i32,
+    pub cr_qp_offset: i32,
+    pub pcm_loop_filter_disabled: bool,
+}
+
 // One 4 by 4 luma block. The QP is held 64 more; bsv and bsh are the bS of the edge on its left and on its top side.
 pub struct Cell {
     pub qp: u8,
