@@ -7,7 +7,7 @@ use native.Mathlib.Omega.{arith}
 use lib.ListN.{length, getD, set, length-set}
 use lib.Seq.{getD-set-same, getD-set-other}
 use Rattle.picture.specs.Plane.{Plane}
-use Rattle.planes.specs.Window.{spot, windowAt, Apart, Filtered}
+use Rattle.planes.specs.Window.{spot, windowAt, Apart, Filtered, Put}
 use Rattle.planes.proofs.Index.{lt-or-le, multiples}
 
 -- a window's sample is the list's
@@ -17,11 +17,6 @@ window-at list base across along i j hi hj =
     ap₂ (λ (k l : ℕ). getD list (spot base across along k l) 0) (omega arith) (omega arith)
 
 -- ---- n samples of the list v are written from `at`, `step` apart
-
-pub record Put (n at step : ℕ) (v before after : List ℕ) : Type 0 where
-  pub len : length after ≡ length before
-  pub within : (k : ℕ) → k < n → getD after (at + k * step) 0 ≡ getD v k 0
-  pub beyond : (i : ℕ) → ((k : ℕ) → k < n → i ≡ at + k * step → ⊥) → getD after i 0 ≡ getD before i 0
 
 pub put-none : (at step : ℕ) (v xs : List ℕ) → Put 0 at step v xs xs
 put-none at step v xs = record { len = refl; within = λ k h. absurd (omega arith); beyond = λ i h. refl }
@@ -83,24 +78,32 @@ module _ (f : Plane → Plane) (base across along : ℕ) (sep : Apart across alo
       omega arith)
       ∙ sym (window-at xs base across along i n hi less)
 
-  -- one line more
-  pub filtered-more : (n : ℕ) (v ys zs : List ℕ) → n < 4 → Filtered n f base across along xs ys
-      → Put 8 (base + n * along) across v ys zs
-      → ((i : ℕ) → i < 8 → getD v i 0 ≡ f (windowAt xs base across along) i n)
+  -- one line more: its eight samples are written, or stay where the filter keeps them
+  pub filtered-line : (n : ℕ) (ys zs : List ℕ) → n < 4 → Filtered n f base across along xs ys
+      → length zs ≡ length ys
+      → ((i : ℕ) → i < 8 → getD zs (spot base across along i n) 0 ≡ f (windowAt xs base across along) i n)
+      → ((k : ℕ) → ((i : ℕ) → i < 8 → k ≡ spot base across along i n → ⊥) → getD zs k 0 ≡ getD ys k 0)
       → Filtered (n + 1) f base across along xs zs
-  filtered-more n v ys zs less w p is = record {
-    len = p .len ∙ w .len;
+  filtered-line n ys zs less w len is rest = record {
+    len = len ∙ w .len;
     within = λ i j hi hj.
         ⊎-elim
         (λ before.
-        p .beyond (spot base across along i j)
+        rest (spot base across along i j)
         (λ k hk q.
         let z : j ≡ n = sep .apart i j k n hi (omega arith) hk less (omega arith) .1 in
         omega arith)
         ∙ w .within i j hi before)
         (λ now.
         let z : j ≡ n = omega arith in
-        rw z (p .within i hi ∙ is i hi))
+        rw z (is i hi))
         (lt-or-le j n);
-    beyond = λ k h. p .beyond k (λ i hi. h i n hi (omega arith)) ∙ w .beyond k (λ i j hi hj. h i j hi (omega arith));
+    beyond = λ k h. rest k (λ i hi. h i n hi (omega arith)) ∙ w .beyond k (λ i j hi hj. h i j hi (omega arith));
   }
+
+  -- all eight are written
+  pub filtered-more : (n : ℕ) (v ys zs : List ℕ) → n < 4 → Filtered n f base across along xs ys
+      → Put 8 (base + n * along) across v ys zs
+      → ((i : ℕ) → i < 8 → getD v i 0 ≡ f (windowAt xs base across along) i n)
+      → Filtered (n + 1) f base across along xs zs
+  filtered-more n v ys zs less w p is = filtered-line n ys zs less w (p .len) (λ i hi. p .within i hi ∙ is i hi) (p .beyond)

@@ -23,3 +23,9 @@ pub record Filtered (n : ℕ) (f : Plane → Plane) (base across along : ℕ) (b
   pub len : length after ≡ length before
   pub within : (i j : ℕ) → i < 8 → j < n → getD after (spot base across along i j) 0 ≡ f (windowAt before base across along) i j
   pub beyond : (k : ℕ) → ((i j : ℕ) → i < 8 → j < n → k ≡ spot base across along i j → ⊥) → getD after k 0 ≡ getD before k 0
+
+-- `after` is `before` with the first n samples of v written from `at`, `step` apart
+pub record Put (n at step : ℕ) (v before after : List ℕ) : Type 0 where
+  pub len : length after ≡ length before
+  pub within : (k : ℕ) → k < n → getD after (at + k * step) 0 ≡ getD v k 0
+  pub beyond : (i : ℕ) → ((k : ℕ) → k < n → i ≡ at + k * step → ⊥) → getD after i 0 ≡ getD before i 0
