@@ -7,7 +7,7 @@ pub use bands::ctb_band_end;
 pub use bands::horiz_band_end;
 pub use gate::is_suppressed;
 pub use gate::slice_gate;
-pub use parameters::chroma_tcs;
+pub use parameters::chroma_threshold;
 pub use parameters::luma_thresholds;
 use picture::Slice;
 
@@ -21,10 +21,4 @@ pub enum SliceGate {
 pub struct LumaThresholds {
     pub beta: u16,
     pub tc: u16,
-}
-
-// The scaled thresholds of a chroma segment, one for each plane.
-pub struct ChromaTcs {
-    pub cb: u16,
-    pub cr: u16,
 }

@@ -1,11 +1,10 @@
 // A segment's thresholds, of its two cells and Q's slice.
-use crate::ChromaTcs;
+
 use crate::LumaThresholds;
 use picture::Cell;
 use picture::Slice;
 ghost use mathlib.Core.Path.{_≡_};
 ghost use Prim.Native.Nat.{_≤_};
-ghost use lib.IntN.{pos};
 ghost use Rattle.ints.specs.Int.{_⊖_};
 ghost use Rattle.filter.specs.Kernel.{luma, chroma};
 ghost use Rattle.filter.specs.Segment.{lumaFilter, chromaFilter};
@@ -22,15 +21,11 @@ pub fn luma_thresholds(depth: u32, p: Cell, q: Cell, s: Slice, bs: u8) -> LumaTh
     }
 }
 
-// The offsets of Cb and Cr are held 12 more.
-pub fn chroma_tcs(format: u32, depth: u32, cb: u8, cr: u8, p: Cell, q: Cell, s: Slice) -> ChromaTcs
+// tc of one chroma plane; its offset, of Cb or of Cr, is held 12 more.
+pub fn chroma_threshold(format: u32, depth: u32, pic: u8, p: Cell, q: Cell, s: Slice) -> u16
     requires { ⌜ (8 ≤ depth) × (depth ≤ 16) ⌝ }
-    ensures { λ r. ⌜ chroma (r .cb) (largestAt depth) ≡ chromaFilter format depth (cb ⊖ 12) p q s ⌝ }
-    ensures { λ r. ⌜ chroma (r .cr) (largestAt depth) ≡ chromaFilter format depth (cr ⊖ 12) p q s ⌝ }
+    ensures { λ r. ⌜ chroma r (largestAt depth) ≡ chromaFilter format depth (pic ⊖ 12) p q s ⌝ }
 {
     let average = thresholds::average_qp(p.qp, q.qp);
-    ChromaTcs {
-        cb: thresholds::chroma_tc(format, depth, average, cb, s.tc),
-        cr: thresholds::chroma_tc(format, depth, average, cr, s.tc),
-    }
+    thresholds::chroma_tc(format, depth, average, pic, s.tc)
 }

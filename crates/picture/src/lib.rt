@@ -12,6 +12,8 @@ pub use columns::ChromaColumn;
 pub use columns::CtbColumn;
 pub use columns::LumaColumn;
 pub use slices::slice_at;
+pub use tiles::same_tile_column;
+pub use tiles::same_tile_row;
 pub use tiles::tile_column;
 pub use tiles::tile_row;
 
