@@ -1,11 +1,11 @@
 -- The gate test by test, and the two sides put together from their lookups.
-use Prim.Native.Nat.{ℕ, _-_, _≤_, _<_}
+use Prim.Native.Nat.{ℕ, _-_, _*_, _≤_, _<_}
 use mathlib.Core.Path.{_≡_, refl, sym, _∙_, ap, ap₂}
 use mathlib.Core.Bool.{Bool, true, false, cond, not, _&&_}
 use mathlib.Core.List.{List}
 use mathlib.Core.Option.{Option, none, some}
 use native.Mathlib.Omega.{arith}
-use borrow.Author.Tests.{lt-ltb, le-ltb, le-leb, lt-leb, not-true, not-false}
+use borrow.Author.Tests.{lt-ltb, le-ltb, le-leb, lt-leb, eq-eqb, ne-eqb, not-true, not-false}
 use lib.Dec.{leb, ltb, eqb}
 use Rattle.ints.specs.Int.{_⊖_}
 use Rattle.filter.specs.declared.SliceGate.{SliceGate}
@@ -16,12 +16,12 @@ use Rattle.filter.specs.Segment.{slicesOpen, lumaFilter, chromaFilter}
 use Rattle.picture.specs.declared.Cell.{Cell}
 use Rattle.picture.specs.declared.Slice.{Slice}
 use Rattle.picture.specs.Cell.{cellAt, cellNumber}
-use Rattle.picture.specs.Scale.{cellOf, ctbOf}
+use Rattle.picture.specs.Scale.{whole, absent, chromaAcross, chromaDown, toLuma, cellOf, ctbOf}
 use Rattle.picture.specs.Slice.{sliceAt}
 use Rattle.picture.specs.Tile.{tileOf}
 use Rattle.segments.specs.declared.Component.{Component}
 use Rattle.segments.specs.Between.{filterFor, leastFor, positive, betweenFor}
-use Rattle.segments.specs.Sides.{verticalSides, horizontalSides}
+use Rattle.segments.specs.Sides.{verticalSides, horizontalSides, acrossFor, downFor}
 
 -- ---- thresholds
 
@@ -118,3 +118,21 @@ module _ (cells starts : List ℕ) (log2 w x y : ℕ) (cq cp nq np : ℕ) (P Q :
         q = (eq ∙ ap (cellAt cells) (enq ∙ ap (λ (c : ℕ). cellNumber w c (cellOf y)) ecq)) i;
         same = et i;
       }
+
+-- ---- scales
+
+pub across-chroma : (k : Component) (x n : ℕ) → k .luma ≡ false → n ≡ toLuma (chromaAcross (k .format)) x → n ≡ toLuma (acrossFor k) x
+across-chroma k x n l e = e ∙ ap (λ (t : Bool). toLuma (cond t whole (chromaAcross (k .format))) x) (sym l)
+
+down-chroma : (k : Component) (y n : ℕ) → k .luma ≡ false → n ≡ toLuma (chromaDown (k .format)) y → n ≡ toLuma (downFor k) y
+down-chroma k y n l e = e ∙ ap (λ (t : Bool). toLuma (cond t whole (chromaDown (k .format))) y) (sym l)
+
+pub down-halved : (k : Component) (y : ℕ) → k .luma ≡ false → k .format ≡ 1 → 2 * y ≡ toLuma (downFor k) y
+down-halved k y l e = down-chroma k y _ l (simp (ne-eqb (k .format) 0 (λ z. omega arith), eq-eqb (k .format) 1 e))
+
+pub down-whole : (k : Component) (y : ℕ) → k .luma ≡ false → (k .format ≡ 1 → ⊥) → y ≡ toLuma (downFor k) y
+down-whole k y l n = down-chroma k y _ l (simp (ne-eqb (k .format) 1 n) (go (eqb (k .format) 0)))
+  where
+    go : (t : Bool) → y ≡ toLuma (cond t absent whole) y
+    go true = refl
+    go false = refl

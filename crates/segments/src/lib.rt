@@ -1,11 +1,14 @@
 // What is filtered at one segment: the cells on its two sides, and from them its thresholds.
 mod between;
 mod neighbours;
+mod scales;
 
 pub use between::segment_filter;
 pub use neighbours::horizontal_sides;
 pub use neighbours::vertical_sides;
 use picture::Cell;
+pub use scales::luma_column;
+pub use scales::luma_row;
 
 // What a pass has to know of the component that it filters. `offset` is the Cb or Cr offset plus 12; luma does not read it.
 pub struct Component {
