@@ -1,13 +1,13 @@
 #!/usr/bin/env python3
 """The stored records of the segment bench, each with what it is for.
 
-    cases.py [DIR]          writes s1.bin, s1.out, cases.bin, cases.out and cases.txt into DIR
-    cases.py --check [DIR]  says whether the files in DIR are what it would write
+    cases.py          writes stdin and stdout of crates/segment_bench and crates/bench_cases, and oracle/cases.txt
+    cases.py --check  says whether those files are what it would write
 
-DIR is `vectors` in the repository's root unless given. The .out files are what the oracle prints
-(run build.sh first). Every case says what it expects; the script stops where the oracle answers
-otherwise, or where the Python model does not answer the same. The expectations S1 to S6 are document
-01's figures. cases.txt lists the records: number, first line of the answer, name.
+The outputs are what the oracle prints (run build.sh first). Every case says what it expects; the
+script stops where the oracle answers otherwise, or where the Python model does not answer the same.
+The expectations S1 to S6 are document 01's figures. cases.txt lists the records: number, first line
+of the answer, name.
 
 Most cases keep document 01's setting: depth 8, both QP 37, bS 2, offsets 0. There beta is 36 and tc
 is 5, so that the limits are:
@@ -367,25 +367,23 @@ def run(cases):
 
 def main():
     arguments = sys.argv[1:]
-    checking = arguments[:1] == ["--check"]
-    if checking:
-        arguments = arguments[1:]
-    if len(arguments) > 1:
+    checking = arguments == ["--check"]
+    if arguments and not checking:
         sys.exit(__doc__)
-    folder = Path(arguments[0]) if arguments else ROOT / "vectors"
 
     cases = [case for group in GROUPS for case in group()]
     s1_data, s1_output, _ = run([S1])
     data, output, found = run(cases)
     listing = "".join(f"{number:3}  {answer[0]:11}  {case.name}\n"
                       for number, (case, answer) in enumerate(zip(cases, found), 1))
-    files = {"s1.bin": s1_data, "s1.out": s1_output, "cases.bin": data, "cases.out": output,
-             "cases.txt": listing.encode()}
+    files = {"crates/segment_bench/stdin": s1_data, "crates/segment_bench/stdout": s1_output,
+             "crates/bench_cases/stdin": data, "crates/bench_cases/stdout": output,
+             "oracle/cases.txt": listing.encode()}
     for name, content in files.items():
         if not checking:
-            (folder / name).write_bytes(content)
-        elif (folder / name).read_bytes() != content:
-            sys.exit(f"{folder / name} is not what cases.py would write")
+            (ROOT / name).write_bytes(content)
+        elif (ROOT / name).read_bytes() != content:
+            sys.exit(f"{name} is not what cases.py would write")
     print(f"{len(cases)} records; {tally(found)}")
 
 

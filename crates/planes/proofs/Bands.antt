@@ -11,7 +11,7 @@ use lib.ListN.{length}
 use Rattle.filter.specs.Bands.{horizontalBandEnd}
 use Rattle.filter.specs.Pass.{edgeOf, firstLine, pass}
 use Rattle.picture.specs.Plane.{Plane, at, transposed}
-use Rattle.planes.specs.Rows.{seen, Rows, Holds}
+use Rattle.planes.specs.Rows.{seen, Rows, Holds, crosswise, Cut}
 use Rattle.planes.proofs.Index.{lt-or-le}
 use Rattle.planes.proofs.Parts.{part, back, rowsOf, rowsBack, rows-lent, rows-in, rows-before, rows-after}
 use Rattle.planes.proofs.Strips.{InRows}
@@ -27,14 +27,6 @@ pub vertical-local : {A : Type 0} (filter : A → Plane → Plane) (w r q : ℕ)
 vertical-local filter w r q segment w4 r4 q4 P Q same x y d =
     pass-same filter w segment P Q x y (same x y d)
     (λ p h k l hk hl. same (edgeOf x + k - 4) (firstLine y + l) (omega arith))
-
--- the pass over horizontal edges of a plane of h rows
-abbrev pub crosswise : {A : Type 0} → (A → Plane → Plane) → ℕ → (ℕ → ℕ → Option A) → Plane → Plane
-crosswise filter h segment P = transposed (pass filter h segment (transposed P))
-
--- a cut between rows that splits no window of a horizontal edge: at the start, at the end, or four rows below an edge
-abbrev pub Cut : ℕ → ℕ → Type 0
-Cut h r = (r ≡ 0) ⊎ ((r ≡ h) ⊎ (r % 8 ≡ 4))
 
 pub horizontal-local : {A : Type 0} (filter : A → Plane → Plane) (w h r q : ℕ) (segment : ℕ → ℕ → Option A)
     → w % 4 ≡ 0 → h % 4 ≡ 0 → Cut h r → Cut h q → Local w r q (crosswise filter h segment)

@@ -8,9 +8,9 @@ use native.Mathlib.Omega.{arith}
 use Rattle.filter.specs.Pass.{edgeOf, firstLine, pass}
 use Rattle.picture.specs.Plane.{Plane, transposed}
 use Rattle.planes.specs.Rows.{seen, Rows}
-use Rattle.planes.specs.Window.{Apart, Filtered}
+use Rattle.planes.specs.Window.{Apart, Filtered, taken}
 use Rattle.planes.proofs.Index.{lt-or-le, same-row, same-column}
-use Rattle.planes.proofs.Turn.{taken, Upto, turn, pass-off}
+use Rattle.planes.proofs.Turn.{Upto, turn, pass-off}
 
 -- the samples of the rows from lo to hi
 abbrev pub InRows : ℕ → ℕ → ℕ → ℕ → ℕ → Type 0

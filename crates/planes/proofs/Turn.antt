@@ -13,12 +13,8 @@ use lib.Dec.{ltb}
 use lib.ListN.{getD}
 use Rattle.filter.specs.Pass.{edgeOf, firstLine, window, applied, pass}
 use Rattle.picture.specs.Plane.{Plane}
-use Rattle.planes.specs.Window.{spot, windowAt, Filtered}
+use Rattle.planes.specs.Window.{spot, windowAt, Filtered, taken}
 use Rattle.planes.proofs.Index.{lt-or-le}
-
--- what a segment makes of its window: the filter's samples, or its own where it is closed
-abbrev pub taken : {A : Type 0} → (A → Plane → Plane) → Option A → Plane → Plane
-taken filter o W i j = applied filter o W i j (W i j)
 
 -- ---- windows
 

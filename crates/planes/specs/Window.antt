@@ -2,7 +2,9 @@
 use Prim.Native.Nat.{ℕ, _+_, _*_, _<_, min}
 use mathlib.Core.Path.{_≡_}
 use mathlib.Core.List.{List}
+use mathlib.Core.Option.{Option}
 use lib.ListN.{length, getD}
+use Rattle.filter.specs.Pass.{applied}
 use Rattle.picture.specs.Plane.{Plane}
 
 -- where sample i of line j stands: `base` is p3 of line 0; `across` and `along` are the strides across the edge and along it
@@ -29,3 +31,7 @@ pub record Put (n at step : ℕ) (v before after : List ℕ) : Type 0 where
   pub len : length after ≡ length before
   pub within : (k : ℕ) → k < n → getD after (at + k * step) 0 ≡ getD v k 0
   pub beyond : (i : ℕ) → ((k : ℕ) → k < n → i ≡ at + k * step → ⊥) → getD after i 0 ≡ getD before i 0
+
+-- what a segment makes of its window: the filter's samples, or its own where it is closed
+abbrev pub taken : {A : Type 0} → (A → Plane → Plane) → Option A → Plane → Plane
+taken filter o W i j = applied filter o W i j (W i j)

@@ -1,0 +1,74 @@
+-- Records whose text the definitions compute to: case S1, which prints what document 01 shows, whole; one that a decision for each line would
+-- print otherwise; and the refusals in their order.
+-- Assumes nothing.
+use Prim.Native.Nat.{ℕ}
+use mathlib.Core.Path.{_≡_, refl}
+use mathlib.Core.List.{List, [], _∷_, _++_}
+use lib.ListN.{take}
+use Rattle.ints.specs.Int.{_⊖_, _⊞_, _⊟_, neg, _⊠_, lt, _>>_, clip3, abs, natOf}
+use Rattle.thresholds.specs.Tables.{BETA, TC}
+use Rattle.thresholds.specs.Luma.{averageQp, betaIndex, tcIndex, scaled, lumaBeta, lumaTc}
+use Rattle.lines.specs.Decision.{activity, dSam, decision}
+use Rattle.lines.specs.Luma.{near, strongLine, lumaLine}
+use Rattle.text.specs.Text.{decimalIn, decimal}
+use Rattle.bench.specs.Bench.{sampleAt, lineAt, depthBad, offsetsBad, qpBad, othersBad, largestSample, sideAbove, lineAbove, samplesAbove, refusalOf, qpOf, betaOf, tcOf, printedTc, decisionOf, wordText, firstText, fourText, lineText, linesText, segmentText, refusedText, shortText, recordText, benchText}
+
+-- depth 8, bS 2, both QP 37, offsets 0
+abbrev s1Head : List ℕ
+s1Head = 8 ∷ 2 ∷ 101 ∷ 101 ∷ 6 ∷ 6 ∷ 0 ∷ 0 ∷ []
+
+-- p side 100, q side 104
+abbrev s1Line : List ℕ
+s1Line = 100 ∷ 0 ∷ 100 ∷ 0 ∷ 100 ∷ 0 ∷ 100 ∷ 0 ∷ 104 ∷ 0 ∷ 104 ∷ 0 ∷ 104 ∷ 0 ∷ 104 ∷ 0 ∷ []
+
+-- p1 is 110, so that by itself this line would be skipped
+abbrev roughLine : List ℕ
+roughLine = 100 ∷ 0 ∷ 100 ∷ 0 ∷ 110 ∷ 0 ∷ 100 ∷ 0 ∷ 104 ∷ 0 ∷ 104 ∷ 0 ∷ 104 ∷ 0 ∷ 104 ∷ 0 ∷ []
+
+-- `strong 5`
+abbrev strongText : List ℕ
+strongText = 115 ∷ 116 ∷ 114 ∷ 111 ∷ 110 ∷ 103 ∷ 32 ∷ 53 ∷ 10 ∷ []
+
+-- `100 101 101 102 103 103 104 104`
+abbrev s1Text : List ℕ
+s1Text =
+    49 ∷ 48 ∷ 48 ∷ 32 ∷ 49 ∷ 48 ∷ 49 ∷ 32 ∷ 49 ∷ 48 ∷ 49 ∷ 32 ∷ 49 ∷ 48 ∷ 50 ∷ 32
+    ∷ 49 ∷ 48 ∷ 51 ∷ 32 ∷ 49 ∷ 48 ∷ 51 ∷ 32 ∷ 49 ∷ 48 ∷ 52 ∷ 32 ∷ 49 ∷ 48 ∷ 52 ∷ 10 ∷ []
+
+-- `100 102 104 104 104 103 104 104`
+abbrev roughText : List ℕ
+roughText =
+    49 ∷ 48 ∷ 48 ∷ 32 ∷ 49 ∷ 48 ∷ 50 ∷ 32 ∷ 49 ∷ 48 ∷ 52 ∷ 32 ∷ 49 ∷ 48 ∷ 52 ∷ 32
+    ∷ 49 ∷ 48 ∷ 52 ∷ 32 ∷ 49 ∷ 48 ∷ 51 ∷ 32 ∷ 49 ∷ 48 ∷ 52 ∷ 32 ∷ 49 ∷ 48 ∷ 52 ∷ 10 ∷ []
+
+-- what comes first, and four parts after it, of which 0, 2 and 3 are alike
+abbrev parts : List ℕ → List ℕ → List ℕ → List ℕ
+parts first line other = first ++ (line ++ (other ++ (line ++ line)))
+
+-- S1; and S1 with the rough line as line 1, which is filtered as lines 0 and 3 decide
+pub prints :
+    (benchText (parts s1Head s1Line s1Line) ≡ parts strongText s1Text s1Text)
+    × (benchText (parts s1Head s1Line roughLine) ≡ parts strongText s1Text roughText)
+unfolding benchText recordText refusalOf depthBad offsetsBad othersBad qpBad samplesAbove lineAbove sideAbove largestSample sampleAt lineAt
+    segmentText firstText wordText printedTc tcOf betaOf qpOf decisionOf linesText lineText fourText decimal decimalIn
+    averageQp betaIndex tcIndex scaled lumaBeta lumaTc BETA TC activity dSam decision lumaLine strongLine near
+    _⊖_ _⊞_ _⊟_ neg _⊠_ lt _>>_ clip3 abs natOf
+prints = (refl, refl)
+
+-- a sample 256, which is above the largest at depth 8
+abbrev highLine : List ℕ
+highLine = 0 ∷ 1 ∷ 100 ∷ 0 ∷ 100 ∷ 0 ∷ 100 ∷ 0 ∷ 104 ∷ 0 ∷ 104 ∷ 0 ∷ 104 ∷ 0 ∷ 104 ∷ 0 ∷ []
+
+-- Each record has the cause after its own as well, so the order shows: depth 7, an offset byte 13, bS 3 or a QP byte 63 or a byte that
+-- is not zero, a sample 256. Then a record that is short by one byte, and none.
+pub refusals :
+    (benchText (parts (7 ∷ 2 ∷ 101 ∷ 101 ∷ 13 ∷ 6 ∷ 0 ∷ 0 ∷ []) s1Line s1Line) ≡ refusedText 3)
+    × (benchText (parts (8 ∷ 3 ∷ 101 ∷ 101 ∷ 6 ∷ 13 ∷ 0 ∷ 0 ∷ []) s1Line s1Line) ≡ refusedText 7)
+    × (benchText (parts (8 ∷ 3 ∷ 101 ∷ 101 ∷ 6 ∷ 6 ∷ 0 ∷ 0 ∷ []) highLine highLine) ≡ refusedText 9)
+    × (benchText (parts (8 ∷ 2 ∷ 101 ∷ 63 ∷ 6 ∷ 6 ∷ 0 ∷ 0 ∷ []) highLine highLine) ≡ refusedText 9)
+    × (benchText (parts (8 ∷ 2 ∷ 101 ∷ 101 ∷ 6 ∷ 6 ∷ 0 ∷ 1 ∷ []) highLine highLine) ≡ refusedText 9)
+    × (benchText (parts s1Head highLine highLine) ≡ refusedText 10)
+    × (benchText (take 71 (parts s1Head s1Line s1Line)) ≡ shortText)
+    × (benchText [] ≡ [])
+unfolding benchText recordText refusalOf depthBad offsetsBad othersBad qpBad samplesAbove lineAbove sideAbove largestSample sampleAt lineAt
+refusals = (refl, refl, refl, refl, refl, refl, refl, refl)
