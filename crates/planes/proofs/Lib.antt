@@ -2,5 +2,6 @@ pub mod Bands
 pub mod Index
 pub mod Parts
 pub mod Strips
+pub mod Tables
 pub mod Turn
 pub mod Windows

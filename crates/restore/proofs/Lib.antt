@@ -1,0 +1,3 @@
+mod CellRows
+mod PlaneRows
+pub mod Restored

@@ -1,0 +1,31 @@
+// Which cells are suppressed.
+use filter::is_suppressed;
+use picture::cell_at;
+ghost use mathlib.Core.Path.{_≡_};
+ghost use Prim.Native.Nat.{_+_, _*_, _≤_};
+ghost use lib.ListN.{length};
+ghost use Rattle.picture.specs.Cell.{suppressed, cellAt};
+ghost use Rattle.restore.specs.Restored.{AnySuppressed};
+
+// Whether cell n is suppressed; `pcm` is the switch.
+pub fn sample_suppressed(cells: &[u8], pcm: bool, n: usize) -> bool
+    requires { ⌜ 8 * n + 8 ≤ length (now cells) ⌝ }
+    ensures { λ r. ⌜ r ≡ suppressed pcm (cellAt (now (cells .entry)) n) ⌝ }
+{
+    is_suppressed(pcm, cell_at(cells, n))
+}
+
+// Whether any cell is. Where none is, restoration changes nothing and is left out.
+pub fn any_suppressed(cells: &[u8], pcm: bool) -> bool
+    ensures { λ r. ⌜ AnySuppressed pcm (now (cells .entry)) r ⌝ }
+{
+    let count = cells.len() / 8;
+    let mut n = 0;
+    while n < count {
+        if sample_suppressed(cells, pcm, n) {
+            return true;
+        }
+        n += 1;
+    }
+    false
+}

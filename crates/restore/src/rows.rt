@@ -1,0 +1,103 @@
+// Cell rows: the samples of one cell in one row of a plane.
+use crate::marks::sample_suppressed;
+use picture::CellColumn;
+use picture::cell_number;
+ghost use mathlib.Core.Path.{_≡_};
+ghost use mathlib.Core.Bool.{cond};
+ghost use Prim.Native.Nat.{_+_, _≤_};
+ghost use lib.ListN.{length, take, drop};
+ghost use Rattle.restore.specs.Code.{RowRestored, LineRestored, PlaneRestored, LineLent, PlaneLent};
+
+// The cell row from `at` of the plane that the mark selects.
+pub fn cell_row<'a>(
+    original: &'a [u16],
+    filtered: &'a [u16],
+    at: usize,
+    count: usize,
+    suppressed: bool,
+) -> &'a [u16]
+    requires { ⌜ (at + count ≤ length (now original)) × (at + count ≤ length (now filtered)) ⌝ }
+    ensures { λ r. ⌜ now r ≡ take count (drop at (cond suppressed (now (original .entry)) (now (filtered .entry)))) ⌝ }
+{
+    let end = at + count;
+    if suppressed {
+        &original[at..end]
+    } else {
+        &filtered[at..end]
+    }
+}
+
+// One cell row in place. The filtered row is there already.
+fn restore_row(line: &mut [u16], original: &[u16], at: usize, count: usize, suppressed: bool)
+    requires { ⌜ (at + count ≤ length (now original)) × (at + count ≤ length (now line)) × (2 ≤ count) × (count ≤ 4) ⌝ }
+    ensures { λ _. ⌜ RowRestored at count suppressed (now (original .entry)) (now (line .entry)) (now (line .exit)) ⌝ }
+{
+    let row = cell_row(original, &line[..], at, count, suppressed);
+    if suppressed {
+        // Of two samples the last two are the first two once more.
+        let a = row[0];
+        let b = row[1];
+        let c = row[count - 2];
+        let d = row[count - 1];
+        let end = at + count;
+        line[at] = a;
+        line[at + 1] = b;
+        line[end - 2] = c;
+        line[end - 1] = d;
+    }
+}
+
+// One row of a plane, of the cells in one row of cells: `width` cells with `across` samples each.
+fn restore_line(
+    line: &mut [u16],
+    original: &[u16],
+    cells: &[u8],
+    pcm: bool,
+    width: CellColumn,
+    row: usize,
+    across: usize,
+)
+    requires { ⌜ LineLent (width .0) row across (now line) (now original) (now cells) ⌝ }
+    ensures { λ _. ⌜ LineRestored pcm (now (cells .entry)) (width .0) row across (now (original .entry)) (now (line .entry)) (now (line .exit)) ⌝ }
+{
+    let mut gx = 0;
+    while gx < width.0 {
+        let n = cell_number(width, CellColumn(gx), row);
+        let suppressed = sample_suppressed(cells, pcm, n);
+        restore_row(&mut line[..], original, gx * across, across, suppressed);
+        gx += 1;
+    }
+}
+
+// A plane in place: `width` by `height` cells, each of `across` by `down` samples.
+pub fn restore_plane(
+    plane: &mut [u16],
+    original: &[u16],
+    cells: &[u8],
+    pcm: bool,
+    width: CellColumn,
+    height: usize,
+    across: usize,
+    down: usize,
+)
+    requires { ⌜ PlaneLent (width .0) height across down (now plane) (now original) (now cells) ⌝ }
+    ensures { λ _. ⌜ PlaneRestored pcm (now (cells .entry)) (width .0) height across down (now (original .entry)) (now (plane .entry)) (now (plane .exit)) ⌝ }
+{
+    let w = width.0 * across;
+    let h = height * down;
+    let mut y = 0;
+    while y < h {
+        let start = y * w;
+        let end = (y + 1) * w;
+        restore_line(
+            &mut plane[start..end],
+            &original[start..end],
+            cells,
+            pcm,
+            width,
+            y / down,
+            across,
+        );
+        y += 1;
+    }
+}
