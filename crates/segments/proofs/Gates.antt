@@ -3,12 +3,11 @@ use Prim.Native.Nat.{ℕ, _-_, _*_, _≤_, _<_}
 use mathlib.Core.Path.{_≡_, refl, sym, _∙_, ap, ap₂}
 use mathlib.Core.Bool.{Bool, true, false, cond, not, _&&_}
 use mathlib.Core.List.{List}
-use mathlib.Core.Option.{Option, none, some}
+use mathlib.Core.Option.{none, some}
 use native.Mathlib.Omega.{arith}
 use borrow.Author.Tests.{lt-ltb, le-ltb, le-leb, lt-leb, eq-eqb, ne-eqb, not-true, not-false}
-use lib.Dec.{leb, ltb, eqb}
+use lib.Dec.{leb, eqb}
 use Rattle.ints.specs.Int.{_⊖_}
-use Rattle.filter.specs.declared.SliceGate.{SliceGate}
 use Rattle.filter.specs.declared.SliceGate.the-variants.{Closed, Open}
 use Rattle.filter.specs.Answer.{sliceGate}
 use Rattle.filter.specs.Kernel.{Filter, tcOf}

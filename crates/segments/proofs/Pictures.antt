@@ -3,13 +3,12 @@ use Prim.Native.Nat.{ℕ, _+_, _-_}
 use mathlib.Core.Path.{_≡_, refl, sym, _∙_, ap}
 use mathlib.Core.Bool.{Bool, true, false, cond, _&&_}
 use mathlib.Core.List.{List}
-use mathlib.Core.Option.{Option, none, some}
+use mathlib.Core.Option.{none, some}
 use borrow.Author.Tests.{eq-eqb}
 use lib.Dec.{ltb, eqb}
 use lib.IntN.{ℤ}
-use Rattle.ints.specs.Int.{_⊖_}
 use Rattle.filter.specs.Kernel.{Filter, tcOf}
-use Rattle.filter.specs.Segment.{Direction, vertical, horizontal, edgeFlag, bsOf, slicesOpen, gate, lumaFilter, chromaFilter, between, segmentAt, segment}
+use Rattle.filter.specs.Segment.{Direction, vertical, horizontal, edgeFlag, bsOf, gate, chromaFilter, between, segmentAt, segment}
 use Rattle.picture.specs.declared.Cell.{Cell}
 use Rattle.picture.specs.Picture.{Picture, Settings}
 use Rattle.picture.specs.Scale as Scale
@@ -18,18 +17,8 @@ use Rattle.picture.specs.Slice.{sliceAt}
 use Rattle.picture.specs.Tile.{tileColumn, tileRow, sameTile}
 use Rattle.segments.specs.declared.Component.{Component}
 use Rattle.segments.specs.Between.{positive, betweenFor}
+use Rattle.segments.specs.Pictures.{componentFor, OffsetIs}
 use Rattle.segments.specs.Sides.{verticalSides, horizontalSides, verticalSegment, horizontalSegment}
-
--- the struct of a component; o is its offset plus 12
-abbrev pub componentFor : Settings → ℕ → Scale.Component → Component
-componentFor t o Y = record { luma = true; format = t .format; depth = t .luma-depth; offset = o }
-componentFor t o Cb = record { luma = false; format = t .format; depth = t .chroma-depth; offset = o }
-componentFor t o Cr = record { luma = false; format = t .format; depth = t .chroma-depth; offset = o }
-
-abbrev pub OffsetIs : Settings → ℕ → Scale.Component → Type 0
-OffsetIs t o Y = Unit {0}
-OffsetIs t o Cb = o ⊖ 12 ≡ t .cb-offset
-OffsetIs t o Cr = o ⊖ 12 ≡ t .cr-offset
 
 -- one test after another
 both : {A : Type 0} (a b : Bool) (x y : A) → cond (a && b) x y ≡ cond a (cond b x y) y

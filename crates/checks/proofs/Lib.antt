@@ -1,0 +1,7 @@
+pub mod Answers
+pub mod Areas
+pub mod Blocks
+pub mod Bytes
+pub mod Places
+pub mod Refusals
+pub mod Tests

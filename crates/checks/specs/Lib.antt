@@ -1,0 +1,4 @@
+pub mod Cells
+pub mod Lengths
+pub mod Numbered
+pub mod Parts

@@ -1,0 +1,81 @@
+// Cause 10 of the ledger: the original samples.
+use picture::Settings;
+ghost use Prim.Native.Nat.{ℕ, _+_, _≤_, _<_};
+ghost use mathlib.Core.Path.{_≡_};
+ghost use mathlib.Core.List.{[]};
+ghost use lib.Dec.{ltb};
+ghost use lib.ListN.{length, getD};
+ghost use Rattle.picture.specs.Given.{given, planes};
+ghost use Rattle.picture.specs.Ledger.{cause10, firstBad, placeOf};
+ghost use Rattle.picture.specs.Picture.{largestAt};
+
+// The largest sample of a depth.
+pub fn largest_at(depth: u32) -> u16
+    requires { ⌜ depth ≤ 16 ⌝ }
+    ensures { λ r. ⌜ r ≡ largestAt depth ⌝ }
+{
+    ((1u32 << depth) - 1) as u16
+}
+
+// The largest of the 32 samples from `from` on: none of them is above it.
+fn block_most(plane: &[u16], from: usize) -> u16
+    requires { ⌜ from + 32 ≤ length (now plane) ⌝ }
+    ensures { λ r. ⌜ ((k : ℕ) → k < 32 → getD (now (plane .entry)) (from + k) 0 ≤ r) ⌝ }
+{
+    let mut most = 0;
+    let mut k = 0;
+    while k < 32 {
+        let sample = plane[from + k];
+        if most < sample {
+            most = sample;
+        }
+        k += 1;
+    }
+    most
+}
+
+// The same as first_bad_sample, where no sample before `from` is above the largest.
+fn first_bad_from(plane: &[u16], largest: u16, from: usize) -> usize
+    requires { ⌜ (from ≤ length (now plane)) × ((k : ℕ) → k < from → getD (now plane) k 0 ≤ largest) ⌝ }
+    ensures { λ r. ⌜ r ≡ firstBad (λ k. ltb largest (getD (now (plane .entry)) k 0)) 0 (length (now (plane .entry))) ⌝ }
+{
+    let mut k = from;
+    while k < plane.len() {
+        if largest < plane[k] {
+            return k;
+        }
+        k += 1;
+    }
+    k
+}
+
+// The first sample of a plane above the largest, or their number where none is. Blocks of 32 samples are passed over by one test each.
+pub fn first_bad_sample(plane: &[u16], largest: u16) -> usize
+    ensures { λ r. ⌜ r ≡ firstBad (λ k. ltb largest (getD (now (plane .entry)) k 0)) 0 (length (now (plane .entry))) ⌝ }
+{
+    let mut from = 0;
+    while 32 <= plane.len() - from {
+        if largest < block_most(plane, from) {
+            return first_bad_from(plane, largest, from);
+        }
+        from += 32;
+    }
+    first_bad_from(plane, largest, from)
+}
+
+// 10. The first original sample above its largest, counted through Y, Cb, Cr; or the number of samples where none is.
+pub fn first_bad_original(settings: Settings, y: &[u16], cb: &[u16], cr: &[u16]) -> usize
+    requires { ⌜ (settings .«luma_depth» ≤ 16) × (settings .«chroma_depth» ≤ 16) ⌝ }
+    ensures { λ r. ⌜ r ≡ placeOf (cause10 (given settings (planes (now (y .entry)) (now (cb .entry)) (now (cr .entry))) [] [] [] [])) ⌝ }
+{
+    let luma = first_bad_sample(y, largest_at(settings.luma_depth));
+    if luma < y.len() {
+        return luma;
+    }
+    let largest = largest_at(settings.chroma_depth);
+    let blue = first_bad_sample(cb, largest);
+    if blue < cb.len() {
+        return y.len() + blue;
+    }
+    y.len() + (cb.len() + first_bad_sample(cr, largest))
+}
