@@ -21,6 +21,9 @@ use Rattle.checks.proofs.Places.{all-good}
 pub record Left (v : Verdict) (n : ℕ) (l : List Cause) : Type 0 where
   pub answer : v ≡ firstOf n l
 
+pub answers : {v w : Verdict} {n : ℕ} {l : List Cause} → Left v n l → w ≡ firstOf n l → w ≡ v
+answers left e = e ∙ sym (left .answer)
+
 -- ---- a cause of place 0
 
 module _ (tests : List Bool) {b : Bool} (e : b ≡ anyOf tests) {v : Verdict} {n : ℕ} {r : List Cause} (left : Left v n (once tests ∷ r)) where
@@ -90,12 +93,12 @@ module _ (s : Code.Settings) (originals : Planes) (cells slices columns rows : L
         let h1 = once-out (badSize (s .width) ++ badSize (s .height)) (good .0) in
         search to-fact depth 1
 
-    pub ready : (o : Planes) → anyOf (badLengths p o) ≡ false → Ready s cells
-    ready o e =
+    pub ready : (o : Planes) {b : Bool} → b ≡ anyOf (badLengths p o) → b ≡ false → Ready s cells
+    ready o e h =
         let h1 = once-out (badSize (s .width) ++ badSize (s .height)) (good .0) in
         let h3 = once-out (badDepths (settingsOf s)) (good .1 .1 .0) in
         let h4 = once-out (badCtb (settingsOf s)) (good .1 .1 .1 .0) in
-        let h6 = none-out (badLengths p o) e in
+        let h6 = none-out (badLengths p o) (sym e ∙ h) in
         search to-fact depth 1
 
 -- planes of given lengths

@@ -40,6 +40,6 @@ holds-table (suc v) h list G len held =
 
 -- xs holds G, and ys holds T of xs: ys holds T of G
 pub holds-then : (w h : ℕ) (T : Plane → Plane) (G : Plane) (xs ys : List ℕ) → Local w 0 h T
-  → Holds w h xs G → Holds w h ys (T (at xs w)) → Holds w h ys (T G)
+    → Holds w h xs G → Holds w h ys (T (at xs w)) → Holds w h ys (T G)
 holds-then w h T G xs ys loc first second x y hx hy =
     second x y hx hy ∙ loc (at xs w) G (λ c r d. first c r (d .0) (d .2)) x y (hx, omega arith, hy)

@@ -1,2 +1,5 @@
+pub mod Accepted
+pub mod Finished
 pub mod Offsets
+pub mod Outcome
 pub mod Steps

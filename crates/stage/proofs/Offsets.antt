@@ -1,16 +1,16 @@
 -- A chroma offset in -12 .. 12, plus 12, is a small natural number that says the offset.
-use Prim.Native.Nat.{ℕ, _+_, _-_, _≤_, _<_, _^_}
-use mathlib.Core.Path.{_≡_, refl, sym, ap, ap₂, _∙_, subst}
+use Prim.Native.Nat.{ℕ, _+_, _-_, _≤_}
+use mathlib.Core.Path.{_≡_, sym, ap, _∙_, subst}
 use native.Mathlib.Nat.{zero-add}
 use native.Mathlib.Omega.{arith}
 use borrow.Author.Tests.{ltb-false}
 use lib.Dec.{T, ltb}
 use lib.IntN.{ℤ, pos, natAbs, _+ℤ_}
-use lib.Signed.{nonNeg, mag}
+use lib.Signed.{nonNeg}
 use mir.Syntax.{w8, w32}
 use mir.Val.{Fits, SFits}
 use Rattle.ints.specs.Int.{_⊖_, _⊞_, neg, lt, abs}
-use Rattle.ints.proofs.Laws.{diffs, diff-eq, diff-pos, by-diff, pos-diff, plus-diff, lt-diff, lt-pos, pos-lt, abs-diff, le-lt}
+use Rattle.ints.proofs.Laws.{diffs, diff-eq, diff-pos, by-diff, pos-diff, plus-diff, lt-diff, pos-lt, abs-diff, le-lt}
 use Rattle.picture.specs.Accepted.{OffsetOk}
 
 range : (a b : ℕ) → OffsetOk (a ⊖ b) → (b ≤ a + 12) × (a ≤ b + 12)

@@ -1,7 +1,7 @@
 -- The steps of one component's plane: copied, passed, restored, passed on that result, restored.
 use Prim.Native.Nat.{ℕ, _+_, _*_, _%_, _^_, _≤_, _<_}
 use mathlib.Core.Path.{_≡_, refl, sym, ap, ap₂, _∙_, subst}
-use mathlib.Core.Bool.{Bool, true, false, cond}
+use mathlib.Core.Bool.{Bool, cond}
 use mathlib.Core.List.{List, [], _∷_, _++_}
 use mathlib.Core.Logic.{inl, inr}
 use native.Mathlib.Nat.{mul-comm, mod-eq-of-lt}
@@ -16,7 +16,7 @@ use Rattle.passes.specs.declared.Frame.{Frame}
 use Rattle.picture.specs.Plane.{Plane, at, table}
 use Rattle.picture.specs.Scale.{Sampling, whole, chromaAcross, chromaDown, fromLuma, cellOf}
 use Rattle.planes.specs.Rows.{Holds, crosswise}
-use Rattle.planes.proofs.Bands.{Local, horizontal-local}
+use Rattle.planes.proofs.Bands.{horizontal-local}
 use Rattle.planes.proofs.Tables.{holds-table, holds-then}
 use Rattle.restore.specs.Restored.{restoredFrom, Lent, Restored}
 use Rattle.segments.specs.declared.Component.{Component}
@@ -26,7 +26,7 @@ use Rattle.stage.specs.Plane.{finishedFrom, PlaneReady}
 -- ---- the copy
 
 pub copied-more : (from to : List ℕ) (i : ℕ) → i < length from → length to ≡ length from → take i to ≡ take i from
-  → take (i + 1) (set to i (getD from i 0)) ≡ take (i + 1) from
+    → take (i + 1) (set to i (getD from i 0)) ≡ take (i + 1) from
 copied-more from to i h len e =
     ap (λ (n : ℕ). take n (set to i (getD from i 0))) (add-one i)
     ∙ take-suc-set to i (getD from i 0) (omega arith)
@@ -63,7 +63,7 @@ lent-again wide high s t a b original cells len l = record {
 
 -- a plane that is lent has its samples
 pub ready-length : {k : Component} {f : Frame} {wide high height : ℕ} {pcm restoring : Bool} {out original cells slices : List ℕ}
-  → PlaneReady k f wide high height pcm restoring out original cells slices → length out ≡ f .h * f .w
+    → PlaneReady k f wide high height pcm restoring out original cells slices → length out ≡ f .h * f .w
 ready-length {k} {f} {wide} {high} pre =
     pre .lent .plane-long
     ∙ ap₂ (λ (m n : ℕ). m * n) (sym (pre .w-is)) (sym (pre .h-is))
@@ -71,16 +71,25 @@ ready-length {k} {f} {wide} {high} pre =
 
 -- ---- the largest sample and the CTB size, as the code works them out
 
-abbrev pub withMost : Frame → ℕ → Frame
-withMost f m = record { w = f .w; h = f .h; width = f .width; height = f .height; log2 = f .log2; most = m }
+-- a frame by its parts
+pub frame-is : (f : Frame) (w h m : ℕ) → w ≡ f .w → h ≡ f .h → m ≡ f .most
+    → record { w = w; h = h; width = f .width; height = f .height; log2 = f .log2; most = m } ≡ f
+frame-is f w h m ew eh em =
+    λ i. record { w = ew i; h = eh i; width = f .width; height = f .height; log2 = f .log2; most = em i }
 
-pub ready-with : (k : Component) (f : Frame) (wide high height : ℕ) (pcm restoring : Bool) (out original cells slices : List ℕ) (m n : ℕ)
-  → m ≡ f .most → n ≡ height
-  → PlaneReady k f wide high height pcm restoring out original cells slices
-  → PlaneReady k (withMost f m) wide high n pcm restoring out original cells slices
-ready-with k f wide high height pcm restoring out original cells slices m n em en pre =
-    subst (λ (i : ℕ). PlaneReady k (withMost f m) wide high i pcm restoring out original cells slices) (sym en)
-    (subst (λ (i : ℕ). PlaneReady k (withMost f i) wide high height pcm restoring out original cells slices) (sym em) pre)
+module _ (k : Component) (g f : Frame) (same : g ≡ f) (wide high : ℕ) (pcm : Bool) where
+  pub ready-as : (height n : ℕ) (restoring : Bool) (out original cells slices : List ℕ) → n ≡ height
+      → PlaneReady k f wide high height pcm restoring out original cells slices
+      → PlaneReady k g wide high n pcm restoring out original cells slices
+  ready-as height n restoring out original cells slices e pre =
+      subst (λ (i : ℕ). PlaneReady k g wide high i pcm restoring out original cells slices) (sym e)
+      (subst (λ (r : Frame). PlaneReady k r wide high height pcm restoring out original cells slices) (sym same) pre)
+
+  pub finished-as : (l original cells slices columns rows : List ℕ)
+      → l ≡ table (g .w) (g .h) (finishedFrom k g wide pcm original cells slices columns rows)
+      → l ≡ table (f .w) (f .h) (finishedFrom k f wide pcm original cells slices columns rows)
+  finished-as l original cells slices columns rows e =
+      e ∙ ap (λ (r : Frame). table (r .w) (r .h) (finishedFrom k r wide pcm original cells slices columns rows)) same
 
 pub power : (n : ℕ) → n ≤ 6 → 1 * 2 ^ n % 18446744073709551616 ≡ 2 ^ n
 power n h =
@@ -104,7 +113,7 @@ module _ (k : Component) (f : Frame) (wide high : ℕ) (pcm : Bool) (original ce
 
   -- a plane that holds G, restored, holds the restored G
   held-restored : (G : Plane) (before after : List ℕ) → Holds (f .w) (f .h) before G
-    → Restored pcm cells wide high (acrossFor k) (downFor k) original before after → Holds (f .w) (f .h) after (restoredBy G)
+      → Restored pcm cells wide high (acrossFor k) (downFor k) original before after → Holds (f .w) (f .h) after (restoredBy G)
   held-restored G before after held is x y hx hy =
       let at-is : (list : List ℕ) → at list (fromLuma (acrossFor k) wide) ≡ at list (f .w) = λ list. ap (at list) (sym w-is) in
       ap (λ (w : ℕ). at after w x y) w-is
@@ -113,13 +122,13 @@ module _ (k : Component) (f : Frame) (wide high : ℕ) (pcm : Bool) (original ce
       ∙ from-same (at before (f .w)) G x y (held x y hx hy)
 
   pub chain : (w4 : f .w % 4 ≡ 0) (h4 : f .h % 4 ≡ 0) (s0 s1 s2 s3 s4 : List ℕ)
-    → s0 ≡ original
-    → Holds (f .w) (f .h) s1 (pass kernel (f .w) (verticalSegment k cells slices columns (f .log2) (f .width)) (at s0 (f .w)))
-    → Restored pcm cells wide high (acrossFor k) (downFor k) original s1 s2
-    → Holds (f .w) (f .h) s3 (crosswise kernel (f .h) (horizontalSegment k cells slices rows (f .log2) (f .width)) (at s2 (f .w)))
-    → Restored pcm cells wide high (acrossFor k) (downFor k) original s3 s4
-    → length s4 ≡ f .w * f .h
-    → s4 ≡ table (f .w) (f .h) (finishedFrom k f wide pcm original cells slices columns rows)
+      → s0 ≡ original
+      → Holds (f .w) (f .h) s1 (pass kernel (f .w) (verticalSegment k cells slices columns (f .log2) (f .width)) (at s0 (f .w)))
+      → Restored pcm cells wide high (acrossFor k) (downFor k) original s1 s2
+      → Holds (f .w) (f .h) s3 (crosswise kernel (f .h) (horizontalSegment k cells slices rows (f .log2) (f .width)) (at s2 (f .w)))
+      → Restored pcm cells wide high (acrossFor k) (downFor k) original s3 s4
+      → length s4 ≡ f .w * f .h
+      → s4 ≡ table (f .w) (f .h) (finishedFrom k f wide pcm original cells slices columns rows)
   unfolding finishedFrom
   chain w4 h4 s0 s1 s2 s3 s4 copied first one second two len =
       let F : Plane = pass kernel (f .w) (verticalSegment k cells slices columns (f .log2) (f .width)) O in

@@ -1,3 +1,6 @@
 // The stage: any picture in, a finished picture or a numbered refusal out.
 mod components;
+mod driver;
 mod planes_of;
+
+pub use driver::apply_deblocking;

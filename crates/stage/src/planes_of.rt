@@ -1,6 +1,9 @@
 // One component's plane, from the original to the finished samples.
-use passes::{Frame, horizontal_pass, vertical_pass};
-use restore::{restore_chroma, restore_luma};
+use passes::Frame;
+use passes::horizontal_pass;
+use passes::vertical_pass;
+use restore::restore_chroma;
+use restore::restore_luma;
 use segments::Component;
 ghost use mathlib.Core.Path.{_≡_};
 ghost use mathlib.Core.Bool.{false};

@@ -37,7 +37,8 @@ returns : tie.Need-returns Inv-loop μ-loop
 returns c =
     λ slices e.
     let a = c .before .before .before .before .before .args in
-    found (c .before .before .before .loop .inv) (omega arith) (sym (c .before .bad-cell-at .ensures) ∙ c .if1 .taken) ∙ bytes-place (a .depth) slices (a .cells .now) (a .count) (omega arith) e
+    found (c .before .before .before .loop .inv) (omega arith) (sym (c .before .bad-cell-at .ensures) ∙ c .if1 .taken)
+    ∙ bytes-place (a .depth) slices (a .cells .now) (a .count) (omega arith) e
 
 add-n : tie.Need-add-n Inv-loop μ-loop
 add-n c = omega arith

@@ -9,7 +9,7 @@ use Rattle.picture.proofs.Causes.{AllGood, good-out}
 use Rattle.checks.specs.Lengths.{badLengths}
 use Rattle.checks.specs.Numbered.{numbered}
 use Rattle.checks.specs.Parts.{listCauses, settingsCauses}
-use Rattle.checks.proofs.Answers.{Left, all-left, goes-on, goes-past-all, ready, refused-by, sizes, some, some-long, stops}
+use Rattle.checks.proofs.Answers.{Left, all-left, answers, goes-on, goes-past-all, ready, refused-by, sizes, some, some-long, stops}
 use Rattle.checks.proofs.Refusals.{refuses}
 use borrow.Author.Needs.{needs}
 use Rattle.checks.proofs.ledger.check.Statement.{statement}
@@ -46,7 +46,7 @@ returns c =
     λ o l.
     let p = picture (entry (c .before)) in
     let s = c .before .check-settings in
-    refused-by 1 (settingsCauses p) (cause6 p o ∷ listCauses p) (s .ensures) (refuses (s .result) (c .match .keys2)) ∙ sym (all-left p o .answer)
+    answers (all-left p o) (refused-by 1 (settingsCauses p) (cause6 p o ∷ listCauses p) (s .ensures) (refuses (s .result) (c .match .keys2)))
 
 bad-lengths-requires : tie.Need-bad-lengths-requires
 bad-lengths-requires c κs =
@@ -62,14 +62,13 @@ check-lists-requires c κs =
     let a = entry (c .before .before .before .before) .args in
     let o = some (a .outy) (a .outcb) (a .outcr) in
     ready (a .settings) (p .originals) (p .cells) (p .slices) (p .columns) (p .rows) (settled (c .before .before)) o
-    (sym (c .before .bad-lengths .ensures o (some-long (a .outy) (a .outcb) (a .outcr))) ∙ c .if1 .left)
+    (c .before .bad-lengths .ensures o (some-long (a .outy) (a .outcb) (a .outcr))) (c .if1 .left)
 
 returns-3 : tie.Need-returns-3
 returns-3 c =
     λ o l.
     let t = c .before .before .before in
-    c .check-lists .ensures
-    ∙ sym (goes-on (badLengths (told t) o) (c .before .before .bad-lengths .ensures o l) (others t o) (c .before .if1 .left) .answer)
+    answers (goes-on (badLengths (told t) o) (c .before .before .bad-lengths .ensures o l) (others t o) (c .before .if1 .left)) (c .check-lists .ensures)
 
 pub check-spec : {M : Type 1} → statement M
 check-spec =

@@ -1,14 +1,14 @@
 -- `check_lists` meets its contract: a cause whose place is not its end gives the answer, and one that does not apply leaves it to the next.
 -- Assumes nothing.
 use Prim.Native.Nat.{ℕ, _+_}
-use mathlib.Core.Path.{_≡_, refl, sym}
+use mathlib.Core.Path.{_≡_, refl}
 use native.Mathlib.Omega.{arith}
 use lib.ListN.{drop}
 use Rattle.picture.specs.Given.{given, planes}
 use Rattle.picture.specs.Ledger.{cause7, cause8, cause9, cause10, firstOf, placeOf}
 use Rattle.picture.specs.Picture.{Picture}
 use Rattle.checks.specs.Parts.{listCauses}
-use Rattle.checks.proofs.Answers.{Left, stops-at, goes-past, cells-place}
+use Rattle.checks.proofs.Answers.{Left, answers, stops-at, goes-past, cells-place}
 use borrow.Author.Needs.{needs}
 use Rattle.checks.proofs.ledger.check_lists.Statement.{statement}
 use Rattle.checks.proofs.ledger.check_lists.Tie as tie
@@ -91,7 +91,7 @@ returns-4 c = stops-at (cause10 (picture (in10 (c .before)))) (c .before .first-
 
 returns-5 : tie.Need-returns-5
 returns-5 c =
-    sym (goes-past (cause10 (picture (in10 (c .before)))) (c .before .first-bad-original .ensures) (after9 (c .before .before)) (c .if4 .left) .answer)
+    answers (goes-past (cause10 (picture (in10 (c .before)))) (c .before .first-bad-original .ensures) (after9 (c .before .before)) (c .if4 .left)) refl
 
 pub check-lists-spec : {M : Type 1} → statement M
 check-lists-spec =

@@ -1,14 +1,14 @@
 -- `check_settings` meets its contract: a cause whose test holds gives the answer, and one that does not apply leaves it to the next.
 -- Assumes nothing.
 use Prim.Native.Nat.{ℕ, suc}
-use mathlib.Core.Path.{refl, sym}
+use mathlib.Core.Path.{refl}
 use mathlib.Core.List.{[], _++_}
 use lib.ListN.{drop}
 use Rattle.picture.specs.Given.{given, planes}
 use Rattle.picture.specs.Ledger.{badCtb, badDepths, badFormat, badOffset, badSize, firstOf}
 use Rattle.picture.specs.Picture.{Picture}
 use Rattle.checks.specs.Parts.{settingsCauses}
-use Rattle.checks.proofs.Answers.{Left, stops, goes-on}
+use Rattle.checks.proofs.Answers.{Left, answers, stops, goes-on}
 use borrow.Author.Needs.{needs}
 use Rattle.checks.proofs.ledger.check_settings.Statement.{statement}
 use Rattle.checks.proofs.ledger.check_settings.Tie as tie
@@ -62,7 +62,8 @@ after4 c =
 after5 : (c : tie.Else5) → Rest (in5 (c .before)) 5
 after5 c =
     let p = picture (in5 (c .before)) in
-    goes-on (badOffset (p .settings .cb-offset) ++ badOffset (p .settings .cr-offset)) (c .before .bad-offsets .ensures) (after4 (c .before .before)) (c .if5 .left)
+    goes-on (badOffset (p .settings .cb-offset) ++ badOffset (p .settings .cr-offset))
+    (c .before .bad-offsets .ensures) (after4 (c .before .before)) (c .if5 .left)
 
 bad-sizes-requires : tie.Need-bad-sizes-requires
 bad-sizes-requires c κs = search needs
@@ -102,10 +103,11 @@ bad-offsets-requires c κs = search needs
 returns-5 : tie.Need-returns-5
 returns-5 c =
     let p = picture (in5 (c .before)) in
-    stops (badOffset (p .settings .cb-offset) ++ badOffset (p .settings .cr-offset)) (c .before .bad-offsets .ensures) (after4 (c .before .before)) (c .if5 .taken)
+    stops (badOffset (p .settings .cb-offset) ++ badOffset (p .settings .cr-offset))
+    (c .before .bad-offsets .ensures) (after4 (c .before .before)) (c .if5 .taken)
 
 returns-6 : tie.Need-returns-6
-returns-6 c = sym (after5 c .answer)
+returns-6 c = answers (after5 c) refl
 
 pub check-settings-spec : {M : Type 1} → statement M
 check-settings-spec =

@@ -18,7 +18,9 @@ mul-if1 : tie.Need-mul-if1
 mul-if1 c = area-fits (omega arith) (omega arith)
 
 mul-if1-2 : tie.Need-mul-if1-2
-mul-if1-2 c = omega (arith, area-most {a = c .before .before .args .settings .width / 4} {b = c .before .before .args .settings .height / 4} (omega arith) (omega arith))
+mul-if1-2 c =
+    let t = c .before .before .args .settings in
+    omega (arith, area-most {a = t .width / 4} {b = t .height / 4} (omega arith) (omega arith))
 
 returns : tie.Need-returns
 returns c = search tests depth 10

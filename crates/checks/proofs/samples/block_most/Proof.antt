@@ -36,7 +36,8 @@ loop-again : tie.Need-loop-again Inv-loop μ-loop
 loop-again c =
     let s = c .before .before .before .before .args in
     let i = c .before .before .before .loop in
-    let step : (i .most ≤ c .if1 .most) × (getD (s .plane .now) (s .from + i .k) 0 ≤ c .if1 .most) = ⊎-elim (λ w. omega arith) (λ w. omega arith) (c .if1 .came) in
+    let step : (i .most ≤ c .if1 .most) × (getD (s .plane .now) (s .from + i .k) 0 ≤ c .if1 .most) =
+    ⊎-elim (λ w. omega arith) (λ w. omega arith) (c .if1 .came) in
     (omega arith, within-more (s .plane .now) (s .from) (i .k) (i .inv .1) (step .0) (step .1))
 
 returns : tie.Need-returns Inv-loop μ-loop

@@ -37,7 +37,8 @@ loop-less c = omega arith
 loop-again : tie.Need-loop-again Inv-loop μ-loop
 loop-again c =
     let i = c .before .before .before .loop in
-    (omega arith, block-more (c .before .before .before .before .before .args .plane .now) (i .from) (i .inv .1) (c .before .block-most .ensures) (c .if1 .left))
+    let l = c .before .before .before .before .before .args .plane .now in
+    (omega arith, block-more l (i .from) (i .inv .1) (c .before .block-most .ensures) (c .if1 .left))
 
 first-bad-from-requires-2 : tie.Need-first-bad-from-requires-2 Inv-loop μ-loop
 first-bad-from-requires-2 c κs = c .before .loop .inv

@@ -22,7 +22,9 @@ bad-offset-requires-2 : tie.Need-bad-offset-requires-2
 bad-offset-requires-2 c κs = search needs
 
 returns : tie.Need-returns
-returns c = any-first (badOffset (c .before .before .before .args .settings .«cb_qp_offset»)) (badOffset (c .before .before .before .args .settings .«cr_qp_offset»)) (cb (c .before)) (c .if1 .taken)
+returns c =
+    let t = c .before .before .before .args .settings in
+    any-first (badOffset (t .«cb_qp_offset»)) (badOffset (t .«cr_qp_offset»)) (cb (c .before)) (c .if1 .taken)
 
 returns-2 : tie.Need-returns-2
 returns-2 c =

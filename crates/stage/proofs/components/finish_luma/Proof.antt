@@ -1,7 +1,9 @@
 -- `finish_luma` meets its contract: the component and the frame are those of the settings.
 -- Assumes nothing.
-use Rattle.stage.specs.Plane.{finishedFrom}
-use Rattle.stage.proofs.Steps.{ready-with, power}
+use mathlib.Core.Path.{refl}
+use Rattle.picture.specs.Scale.{Y}
+use Rattle.stage.specs.Frames.{frameOf}
+use Rattle.stage.proofs.Steps.{frame-is, ready-as, finished-as, power}
 use borrow.Author.Needs.{needs}
 use Rattle.stage.proofs.components.finish_luma.Statement.{statement}
 use Rattle.stage.proofs.components.finish_luma.Tie as tie
@@ -22,14 +24,17 @@ shl-ctb : tie.Need-shl-ctb
 shl-ctb c = search needs
 
 finish-plane-requires : tie.Need-finish-plane-requires
-finish-plane-requires c κs = ready-with _ _ _ _ _ _ _ _ _ _ _ _ _ (c .before .before .largest-at .ensures) (power _ (c .before .before .before .before .before .before .before .before .before .before .before .pre .ready .ctb)) (c .before .before .before .before .before .before .before .before .before .before .before .pre)
+finish-plane-requires c κs =
+    let st = c .before .before .before .before .before .before .before .before .before .before .before in
+    ready-as _ _ _ (frame-is (frameOf (st .args .settings) Y) _ _ _ refl refl (c .before .before .largest-at .ensures)) _ _ _ _ _ _ _ (st .args .original .now) (st .args .cells .now) (st .args .slices .now) (power _ (st .pre .ready .ctb)) (st .pre)
 
 same-length : tie.Need-same-length
 same-length c = search needs
 
 returns : tie.Need-returns
-unfolding finishedFrom
-returns c = c .before .before .finish-plane .ensures
+returns c =
+    let st = c .before .before .before .before .before .before .before .before .before .before .before .before .before .before in
+    finished-as _ _ _ (frame-is (frameOf (st .args .settings) Y) _ _ _ refl refl (c .before .before .before .before .before .largest-at .ensures)) (st .args .settings .width) 0 (st .args .settings .«pcm_loop_filter_disabled») _ (st .args .original .now) (st .args .cells .now) (st .args .slices .now) (st .args .columns .now) (st .args .rows .now) (c .before .before .finish-plane .ensures)
 
 pub finish-luma-spec : {M : Type 1} → statement M
 finish-luma-spec =

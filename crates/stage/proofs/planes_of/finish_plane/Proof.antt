@@ -26,7 +26,7 @@ same-length : tie.Need-same-length
 same-length c = search needs
 
 returns : tie.Need-returns
-returns c = 
+returns c =
     let st = c .before .before .before .before .before .before .before .before .before .before .before .before .before .before .before .before .before .before .before .before .before .before .before .before .before .before in
     let copy = c .before .before .before .before .before .before .before .before .before .before .before .before .before .before .before .before .before .before .copy-samples in
     let first = c .before .before .before .before .before .before .before .before .before .before .before .before .before .before .vertical-pass in

@@ -1,7 +1,7 @@
 -- `restore_plane` meets its contract: luma and chroma restoration are that of the component, and with no suppressed cell the plane is restored as it is.
 -- Assumes nothing.
 use mathlib.Core.Bool.{true, false}
-use borrow.Author.Tests.{not-true, not-false}
+use borrow.Author.Tests.{not-true}
 use Rattle.restore.proofs.Restored.{restored-already}
 use Rattle.stage.proofs.Steps.{lent-at, restored-at}
 use borrow.Author.Needs.{needs}
