@@ -14,7 +14,7 @@ length-tabulate : (n : ℕ) (f : ℕ → ℕ) → length (tabulate n f) ≡ n
 length-tabulate zero f = refl
 length-tabulate (suc n) f = ap suc (length-tabulate n (λ k. f (suc k)))
 
-getD-tabulate : (n : ℕ) (f : ℕ → ℕ) (k : ℕ) → k < n → getD (tabulate n f) k 0 ≡ f k
+pub getD-tabulate : (n : ℕ) (f : ℕ → ℕ) (k : ℕ) → k < n → getD (tabulate n f) k 0 ≡ f k
 getD-tabulate zero f k h = absurd (omega arith)
 getD-tabulate (suc n) f zero h = refl
 getD-tabulate (suc n) f (suc k) h = getD-tabulate n (λ k. f (suc k)) k (omega arith)

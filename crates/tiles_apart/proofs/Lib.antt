@@ -1,0 +1,14 @@
+pub mod Parts
+pub mod Pass
+pub mod Span
+pub mod Scale
+pub mod Tile
+pub mod Cells
+pub mod Segments
+pub mod Local
+pub mod Accept
+pub mod Tables
+pub mod Count
+pub mod Outputs
+pub mod Term3
+pub mod Example
