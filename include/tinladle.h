@@ -1,0 +1,94 @@
+/* tinladle: the HEVC deblocking filter on one whole picture (ITU-T H.265, clause 8.7.2).
+ *
+ * The library is libtinladle.a. It allocates nothing, keeps nothing between calls and calls nothing, so any number of threads may run it on
+ * planes of their own.
+ */
+#ifndef TINLADLE_H
+#define TINLADLE_H
+
+#include <stdbool.h>
+#include <stddef.h>
+#include <stdint.h>
+
+#ifdef __cplusplus
+extern "C" {
+#endif
+
+/* Filters one picture. The originals y, cb, cr are read; the filtered samples go to out_y, out_cb, out_cr.
+ *
+ * Every value of every argument is allowed: what is not a picture is refused, with a number. All lengths are counted in elements.
+ *
+ *   width, height             in luma samples: multiples of 8, from 8 to 8192
+ *   chroma_format             0 none, 1 4:2:0, 2 4:2:2, 3 4:4:4
+ *   luma_depth, chroma_depth  bits of a sample, 8 to 16; both are checked in every format
+ *   log2_ctb                  log2 of the size of a coding tree block (CTB), 4 to 6
+ *   cb_qp_offset              pps_cb_qp_offset, -12 to 12; checked in every format
+ *   cr_qp_offset              pps_cr_qp_offset, -12 to 12; checked in every format
+ *   pcm_loop_filter_disabled  a cell marked PCM keeps its original samples
+ *   y, y_len                  the original luma samples, row by row: width * height
+ *   cb, cb_len                the original Cb samples, row by row, in the format's own size; none in format 0
+ *   cr, cr_len                the original Cr samples, likewise
+ *   cells, cells_len          8 bytes for each 4 by 4 luma block, row by row (below)
+ *   slices, slices_len        4 bytes for each slice, at most 2400 bytes (below); none stands for one slice 0, 6, 6, 1
+ *   tile_columns, columns_len the first CTB column of each tile column, 1 to 20 entries: 0, then rising
+ *   tile_rows, rows_len       the first CTB row of each tile row, 1 to 22 entries: 0, then rising
+ *   out_y, out_y_len          where the filtered luma samples go; as long as y
+ *   out_cb, out_cb_len        where the filtered Cb samples go; as long as cb
+ *   out_cr, out_cr_len        where the filtered Cr samples go; as long as cr
+ *   place                     where the place of the answer is stored, always
+ *
+ * The 8 bytes of a cell:
+ *   0     QP plus 64; the QP is from -6 * (luma_depth - 8) to 51
+ *   1     bit 0: an edge on its left side; bit 1: an edge on its top side; bit 2: lossless; bit 3: PCM; the others 0
+ *   2     bS of the edge on its left side, 0 to 2
+ *   3     bS of the edge on its top side, 0 to 2
+ *   4, 5  number of its slice, low byte first
+ *   6, 7  0
+ *
+ * The 4 bytes of a slice:
+ *   0     1 where its edges are not filtered, else 0
+ *   1     slice_beta_offset_div2 plus 6, 0 to 12
+ *   2     slice_tc_offset_div2 plus 6, 0 to 12
+ *   3     1 where the filter runs across its left and top borders, else 0
+ *
+ * No edge between two tiles is filtered.
+ *
+ * Returned is a number, and *place says where. The causes are looked for in this order and the first is returned:
+ *
+ *   0   accepted: the output planes hold the filtered picture           place 0
+ *   1   width or height not allowed                                     place 0
+ *   2   chroma_format above 3                                           place 0
+ *   3   a depth outside 8 to 16                                         place 0
+ *   4   log2_ctb outside 4 to 6                                         place 0
+ *   5   a chroma offset outside -12 to 12                               place 0
+ *   6   a plane, original or output, or the cells not of their length;  place 0
+ *       slices_len not a multiple of 4 or above 2400; no tile start
+ *       or too many
+ *   7   a slice out of range                                            the first such slice
+ *   8   a tile start out of rule: the first not 0, one not above the    the first such entry, the rows numbered on
+ *       one before, or one past the picture's last CTB                  after the columns
+ *   9   a cell out of range, or its slice not in the list               the first such cell
+ *   10  an original sample above 2^depth - 1                            the first such, counted through y, cb, cr
+ *
+ * On a refusal, numbers 1 to 10, nothing but *place is written: the output planes hold what they held.
+ *
+ * What a caller owes, and no check can see:
+ *   - Each pointer points to as many elements as its length says, aligned for their type, which nothing else changes during the call.
+ *   - A pointer may be null only where its length is 0, as those of cb, cr, out_cb and out_cr in format 0. place is never null.
+ *   - No output plane overlaps another output plane or any input, and *place overlaps none of them. Inputs may overlap one another.
+ *   - pcm_loop_filter_disabled is 0 or 1 in its byte, as every bool of C is.
+ */
+uint32_t tinladle_deblock(
+    uint32_t width, uint32_t height, uint32_t chroma_format, uint32_t luma_depth, uint32_t chroma_depth,
+    uint32_t log2_ctb, int32_t cb_qp_offset, int32_t cr_qp_offset, bool pcm_loop_filter_disabled,
+    const uint16_t *y, size_t y_len, const uint16_t *cb, size_t cb_len, const uint16_t *cr, size_t cr_len,
+    const uint8_t *cells, size_t cells_len, const uint8_t *slices, size_t slices_len,
+    const uint16_t *tile_columns, size_t columns_len, const uint16_t *tile_rows, size_t rows_len,
+    uint16_t *out_y, size_t out_y_len, uint16_t *out_cb, size_t out_cb_len, uint16_t *out_cr, size_t out_cr_len,
+    uint64_t *place);
+
+#ifdef __cplusplus
+}
+#endif
+
+#endif
