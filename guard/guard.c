@@ -1,0 +1,283 @@
+/* Calls tinladle_deblock as a C program does. Every buffer lies between guard words; guards and inputs must stay as they were, and on a
+ * refusal the junk in the output planes too. The expected samples are document 01's figures: of S1, a step from 100 to 104 at QP 37 and
+ * bS 2 becomes 100 101 101 102 103 103 104 104. The refusals are the small inputs of its ledger, and a few more. */
+#include <stdio.h>
+#include <stdlib.h>
+#include <string.h>
+#include "tinladle.h"
+
+enum { WIDTH = 32, HEIGHT = 16, LUMA = WIDTH * HEIGHT, CHROMA = LUMA / 4, CELLS = LUMA / 16, GUARD = 16 };
+enum { OUT_JUNK = 0xA5, GUARD_BYTE = 0x5C };
+
+/* A buffer of n bytes between two guards, and a copy of what it held at the call. */
+struct Lent {
+    unsigned char *whole;
+    unsigned char *before;
+    size_t bytes;
+};
+
+static struct Lent lend(size_t bytes, int fill) {
+    struct Lent b = { malloc(bytes + 2 * GUARD), malloc(bytes + 1), bytes };
+    if (!b.whole || !b.before) abort();
+    memset(b.whole, GUARD_BYTE, bytes + 2 * GUARD);
+    memset(b.whole + GUARD, fill, bytes);
+    return b;
+}
+
+static void *at(struct Lent *b) { return b->whole + GUARD; }
+
+/* What the call is handed: an empty buffer goes as null, which the header allows. */
+static void *lent(struct Lent *b) { return b->bytes == 0 ? NULL : at(b); }
+
+static void remember(struct Lent *b) { memcpy(b->before, at(b), b->bytes); }
+
+static int unchanged(struct Lent *b) { return memcmp(b->before, at(b), b->bytes) == 0; }
+
+static int guarded(const struct Lent *b) {
+    for (size_t i = 0; i < GUARD; i++)
+        if (b->whole[i] != GUARD_BYTE || b->whole[GUARD + b->bytes + i] != GUARD_BYTE) return 0;
+    return 1;
+}
+
+static void give_back(struct Lent *b) {
+    free(b->whole);
+    free(b->before);
+}
+
+enum { Y, CB, CR, CELL, SLICE, COLUMN, ROW, INPUTS, OUT_Y = INPUTS, OUT_CB, OUT_CR, PLACE, BUFFERS };
+
+struct Picture {
+    uint32_t width, height, format, luma_depth, chroma_depth, log2_ctb;
+    int32_t cb_offset, cr_offset;
+    bool pcm;
+    struct Lent lent[BUFFERS];
+};
+
+static uint16_t *samples(struct Picture *p, int which) { return at(&p->lent[which]); }
+
+static uint8_t *cell(struct Picture *p, int column, int row) {
+    return (uint8_t *)at(&p->lent[CELL]) + 8 * (row * (WIDTH / 4) + column);
+}
+
+/* A new length for one buffer; what fits is kept. */
+static void resize(struct Picture *p, int which, size_t bytes, int fill) {
+    struct Lent b = lend(bytes, fill);
+    size_t kept = bytes < p->lent[which].bytes ? bytes : p->lent[which].bytes;
+    memcpy(at(&b), at(&p->lent[which]), kept);
+    give_back(&p->lent[which]);
+    p->lent[which] = b;
+}
+
+/* Left of column 8 all luma is 100, from there on 104; the edge at column 8 is the only one. Chroma is flat. */
+static struct Picture accepted(void) {
+    static const size_t bytes[BUFFERS] = { 2 * LUMA, 2 * CHROMA, 2 * CHROMA, 8 * CELLS, 0, 2, 2, 2 * LUMA, 2 * CHROMA, 2 * CHROMA, 8 };
+    struct Picture p = { WIDTH, HEIGHT, 1, 8, 8, 4, 0, 0, false, { { 0 } } };
+    for (int i = 0; i < BUFFERS; i++) p.lent[i] = lend(bytes[i], i < INPUTS ? 0 : OUT_JUNK);
+    for (int i = 0; i < LUMA; i++) samples(&p, Y)[i] = i % WIDTH < 8 ? 100 : 104;
+    for (int i = 0; i < CHROMA; i++) samples(&p, CB)[i] = 60, samples(&p, CR)[i] = 70;
+    for (int row = 0; row < HEIGHT / 4; row++) {
+        for (int column = 0; column < WIDTH / 4; column++) cell(&p, column, row)[0] = 37 + 64;
+        cell(&p, 2, row)[1] = 1;
+        cell(&p, 2, row)[2] = 2;
+    }
+    return p;
+}
+
+static uint32_t call(struct Picture *p, uint64_t *place) {
+    for (int i = 0; i < BUFFERS; i++) remember(&p->lent[i]);
+    struct Lent *l = p->lent;
+    uint32_t number = tinladle_deblock(p->width, p->height, p->format, p->luma_depth, p->chroma_depth, p->log2_ctb, p->cb_offset,
+        p->cr_offset, p->pcm, lent(&l[Y]), l[Y].bytes / 2, lent(&l[CB]), l[CB].bytes / 2, lent(&l[CR]), l[CR].bytes / 2, lent(&l[CELL]),
+        l[CELL].bytes, lent(&l[SLICE]), l[SLICE].bytes, lent(&l[COLUMN]), l[COLUMN].bytes / 2, lent(&l[ROW]), l[ROW].bytes / 2, lent(&l[OUT_Y]),
+        l[OUT_Y].bytes / 2, lent(&l[OUT_CB]), l[OUT_CB].bytes / 2, lent(&l[OUT_CR]), l[OUT_CR].bytes / 2, at(&l[PLACE]));
+    memcpy(place, at(&l[PLACE]), sizeof *place);
+    return number;
+}
+
+static int failures = 0;
+
+static void expect(int holds, const char *name, const char *what) {
+    if (holds) return;
+    failures++;
+    printf("%s: DIFFERENCE: %s\n", name, what);
+}
+
+/* Runs one picture and looks at all that no answer may change. Afterwards the caller looks at the outputs of an accepted one. */
+static void run(struct Picture *p, const char *name, uint32_t number, uint64_t place) {
+    uint64_t stored;
+    uint32_t answer = call(p, &stored);
+    printf("%s: number %u, place %llu\n", name, (unsigned)answer, (unsigned long long)stored);
+    expect(answer == number, name, "the number");
+    expect(stored == place, name, "the place");
+    for (int i = 0; i < BUFFERS; i++) expect(guarded(&p->lent[i]), name, "a guard was written");
+    for (int i = 0; i < INPUTS; i++) expect(unchanged(&p->lent[i]), name, "an input was written");
+    if (answer != 0)
+        for (int i = OUT_Y; i <= OUT_CR; i++) expect(unchanged(&p->lent[i]), name, "a refusal wrote an output plane");
+}
+
+static void done(struct Picture *p) {
+    for (int i = 0; i < BUFFERS; i++) give_back(&p->lent[i]);
+}
+
+static void refused(struct Picture *p, const char *name, uint32_t number, uint64_t place) {
+    run(p, name, number, place);
+    done(p);
+}
+
+/* S1 on the rows from first to end; the other rows as they were. */
+static void expect_step(struct Picture *p, const char *name, int first, int end) {
+    static const uint16_t filtered[16] = { 100, 100, 100, 100, 100, 101, 101, 102, 103, 103, 104, 104, 104, 104, 104, 104 };
+    for (int i = 0; i < LUMA; i++) {
+        int x = i % WIDTH, y = i / WIDTH;
+        uint16_t original = x < 8 ? 100 : 104;
+        uint16_t wanted = x < 16 && first <= y && y < end ? filtered[x] : original;
+        expect(samples(p, OUT_Y)[i] == wanted, name, "a luma sample");
+    }
+}
+
+static void expect_copied(struct Picture *p, const char *name, int original, int output) {
+    expect(memcmp(at(&p->lent[original]), at(&p->lent[output]), p->lent[output].bytes) == 0, name, "a sample that no edge touches");
+}
+
+static void expect_chroma_copied(struct Picture *p, const char *name) {
+    expect_copied(p, name, CB, OUT_CB);
+    expect_copied(p, name, CR, OUT_CR);
+}
+
+static void luma_cases(void) {
+    struct Picture p = accepted();
+    run(&p, "S1 on every row", 0, 0);
+    expect_step(&p, "S1 on every row", 0, HEIGHT);
+    expect_chroma_copied(&p, "S1 on every row");
+    done(&p);
+
+    p = accepted();
+    for (int row = 1; row < HEIGHT / 4; row++) cell(&p, 2, row)[2] = 0;
+    run(&p, "S1 on the first four rows", 0, 0);
+    expect_step(&p, "S1 on the first four rows", 0, 4);
+    expect_chroma_copied(&p, "S1 on the first four rows");
+    done(&p);
+
+    /* Format 0: the chroma planes are empty. */
+    p = accepted();
+    p.format = 0;
+    resize(&p, CB, 0, 0), resize(&p, CR, 0, 0), resize(&p, OUT_CB, 0, 0), resize(&p, OUT_CR, 0, 0);
+    run(&p, "S1, no chroma", 0, 0);
+    expect_step(&p, "S1, no chroma", 0, HEIGHT);
+    done(&p);
+}
+
+/* Cb steps from 50 to 60 at its column 8, which is luma column 16; the edge there has bS 2. */
+static struct Picture chroma_step(void) {
+    struct Picture p = accepted();
+    for (int i = 0; i < CHROMA; i++) samples(&p, CB)[i] = i % (WIDTH / 2) < 8 ? 50 : 60;
+    for (int row = 0; row < HEIGHT / 4; row++) cell(&p, 4, row)[1] = 1, cell(&p, 4, row)[2] = 2;
+    return p;
+}
+
+static void chroma_cases(void) {
+    /* K1: 50 50 | 60 60 at QP 37 becomes 54 | 56. */
+    struct Picture p = chroma_step();
+    run(&p, "K1 in Cb", 0, 0);
+    for (int i = 0; i < CHROMA; i++) {
+        int x = i % (WIDTH / 2);
+        uint16_t wanted = x < 7 ? 50 : x == 7 ? 54 : x == 8 ? 56 : 60;
+        expect(samples(&p, OUT_CB)[i] == wanted, "K1 in Cb", "a Cb sample");
+    }
+    expect_step(&p, "K1 in Cb", 0, HEIGHT);
+    expect_copied(&p, "K1 in Cb", CR, OUT_CR);
+    done(&p);
+
+    /* T1: a tile border at column 16 closes that edge. */
+    p = chroma_step();
+    resize(&p, COLUMN, 4, 0);
+    samples(&p, COLUMN)[1] = 1;
+    run(&p, "T1 in Cb", 0, 0);
+    expect_step(&p, "T1 in Cb", 0, HEIGHT);
+    expect_chroma_copied(&p, "T1 in Cb");
+    done(&p);
+}
+
+static void refused_settings(void) {
+    struct Picture p = accepted();
+    p.width = 12;
+    refused(&p, "1: width 12", 1, 0);
+    p = accepted();
+    p.height = 8200;
+    refused(&p, "1: height 8200", 1, 0);
+    p = accepted();
+    p.format = 4;
+    refused(&p, "2: format 4", 2, 0);
+    p = accepted();
+    p.luma_depth = 7;
+    refused(&p, "3: luma depth 7", 3, 0);
+    p = accepted();
+    p.chroma_depth = 17;
+    refused(&p, "3: chroma depth 17", 3, 0);
+    p = accepted();
+    p.log2_ctb = 3;
+    refused(&p, "4: log2 CTB 3", 4, 0);
+    p = accepted();
+    p.cb_offset = 13;
+    refused(&p, "5: Cb offset 13", 5, 0);
+    p = accepted();
+    p.cr_offset = -13;
+    refused(&p, "5: Cr offset -13", 5, 0);
+}
+
+static void refused_lengths(void) {
+    static const char *names[BUFFERS] = { "6: y short", "6: cb short", "6: cr short", "6: cells short", "6: slices of 2 bytes",
+        "6: no column start", "6: no row start", "6: out_y short", "6: out_cb short", "6: out_cr short", 0 };
+    for (int i = 0; i < PLACE; i++) {
+        struct Picture p = accepted();
+        resize(&p, i, i == SLICE ? 2 : p.lent[i].bytes - 2, i < INPUTS ? 0 : OUT_JUNK);
+        refused(&p, names[i], 6, 0);
+    }
+}
+
+static void refused_lists(void) {
+    struct Picture p = accepted();
+    static const uint8_t slices[12] = { 0, 6, 6, 1, 0, 6, 6, 1, 0, 13, 6, 1 };
+    resize(&p, SLICE, sizeof slices, 0);
+    memcpy(at(&p.lent[SLICE]), slices, sizeof slices);
+    refused(&p, "7: third slice 0, 13, 6, 1", 7, 2);
+
+    p = accepted();
+    resize(&p, COLUMN, 6, 0);
+    samples(&p, COLUMN)[1] = 1, samples(&p, COLUMN)[2] = 1;
+    refused(&p, "8: columns 0, 1, 1", 8, 2);
+    p = accepted();
+    samples(&p, ROW)[0] = 1;
+    refused(&p, "8: rows 1", 8, 1);
+
+    p = accepted();
+    cell(&p, 2, 0)[0] = 63;
+    refused(&p, "9: cell 2 has QP byte 63", 9, 2);
+    p = accepted();
+    cell(&p, 1, 3)[4] = 1;
+    refused(&p, "9: cell 25 has slice 1", 9, 25);
+
+    p = accepted();
+    samples(&p, Y)[5] = 256;
+    refused(&p, "10: Y sample 5 is 256", 10, 5);
+    p = accepted();
+    samples(&p, CB)[3] = 256;
+    refused(&p, "10: Cb sample 3 is 256", 10, LUMA + 3);
+    p = accepted();
+    samples(&p, CR)[CHROMA - 1] = 65535;
+    refused(&p, "10: the last Cr sample is 65535", 10, LUMA + 2 * CHROMA - 1);
+    p = accepted();
+    samples(&p, CR)[0] = 256, cell(&p, 7, 3)[7] = 1;
+    refused(&p, "9 before 10", 9, 31);
+}
+
+int main(void) {
+    luma_cases();
+    chroma_cases();
+    refused_settings();
+    refused_lengths();
+    refused_lists();
+    if (failures) return printf("%d differences\n", failures), 1;
+    printf("ok\n");
+    return 0;
+}

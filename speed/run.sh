@@ -1,0 +1,16 @@
+#!/bin/sh
+# Our static library beside the customer's Rust, in one program: speed/run.sh [SRC]
+# SRC is the customer's folder docs/src, by default ../shared/docs/src seen from the repository's root.
+# RUNS (default 15): how often each is run, in turn.
+set -eu
+root=$(cd "$(dirname "$0")/.." && pwd)
+src=$(cd "${1:-$root/../shared/docs/src}" && pwd)
+cd "$root"
+mkdir -p target/oracle target/speed
+ln -sfn "$src" target/oracle/customer
+rt staticlib tinladle >target/speed/staticlib.out 2>&1 || {
+    tail -n 20 target/speed/staticlib.out
+    exit 1
+}
+rustc --edition 2024 -C opt-level=3 -L native=target/staticlib -l static=tinladle -o target/speed/speed speed/speed.rs
+target/speed/speed "${RUNS:-15}"
