@@ -3,7 +3,7 @@ use Prim.Native.Nat.{ℕ, _+_, _-_, _*_, _/_, _%_, _≤_, _<_}
 use mathlib.Core.Path.{_≡_, refl, sym, ap, ap₂, _∙_, subst}
 use mathlib.Core.Bool.{Bool}
 use mathlib.Core.List.{List}
-use mathlib.Core.Option.{Option}
+use mathlib.Core.Option.{Option, none}
 use native.Mathlib.Nat.{mul-le-mul}
 use native.Mathlib.Omega.{arith}
 use lib.Dec.{eqb}
@@ -12,9 +12,9 @@ use Rattle.filter.specs.Kernel.{Filter, luma, chroma, kernel}
 use Rattle.passes.specs.declared.Frame.{Frame}
 use Rattle.passes.specs.Ready.{Ready}
 use Rattle.picture.specs.declared.Cell.{Cell}
-use Rattle.picture.specs.Cell.{bit, cellAt}
+use Rattle.picture.specs.Cell.{bit, cellAt, cellNumber}
 use Rattle.picture.specs.Picture.{largestAt}
-use Rattle.picture.specs.Scale.{Sampling, whole, halved, absent, toLuma}
+use Rattle.picture.specs.Scale.{Sampling, whole, halved, absent, toLuma, cellOf}
 use Rattle.picture.specs.Slice.{sliceCount}
 use Rattle.planes.specs.Window.{Filtered, taken}
 use Rattle.planes.proofs.Index.{within-rows}
@@ -45,6 +45,10 @@ pub window-closed : (base across along : ℕ) (xs : List ℕ) (most : ℕ) (r : 
 window-closed base across along xs most r e =
     subst (λ (s : Segment). Filtered 4 (taken kernel (optionOf most s)) base across along xs xs) (sym e)
     (filtered-same _ base across along xs (λ i j hi hj. refl))
+
+-- nothing is filtered and nothing moves
+pub window-none : (base across along : ℕ) (xs : List ℕ) (b : Option Filter) → none ≡ b → Filtered 4 (taken kernel b) base across along xs xs
+window-none base across along xs b e = filtered-by base across along xs xs none b e (filtered-same _ base across along xs (λ i j hi hj. refl))
 
 -- ---- cells
 
@@ -103,6 +107,31 @@ module _ (k : Component) (f : Frame) (cells slices starts : List ℕ) (ready : R
   horizontal-slice log2 v e = known (v .q) (ap (λ (s : Sides). s .q) e)
 
 -- ---- what is filtered
+
+-- a segment whose flag is 0 is closed
+module _ (k : Component) (slices : List ℕ) (s : Sides) (bS flags : ℕ) where
+  off : (n : ℕ) → n ≡ 0 → betweenFor k slices (s .p) (s .q) (eqb n 1) bS (s .same) ≡ none
+  unfolding betweenFor
+  off n e = ap (λ (m : ℕ). betweenFor k slices (s .p) (s .q) (eqb m 1) bS (s .same)) e
+
+module _ (k : Component) (cells slices starts : List ℕ) (log2 width e l x y flags : ℕ) where
+  pub vertical-none : x ≡ toLuma (acrossFor k) e → y ≡ toLuma (downFor k) (l + 1)
+      → flags ≡ cellAt cells (cellNumber width (cellOf x) (cellOf y)) .flags → flags % 2 ≡ 0
+      → none ≡ verticalSegment k cells slices starts log2 width e l
+  unfolding verticalSegment verticalSides
+  vertical-none ex ey ef zero =
+      let s : Sides = verticalSides cells starts log2 width (toLuma (acrossFor k) e) (toLuma (downFor k) (l + 1)) in
+      let same : flags ≡ s .q .flags = ef ∙ ap₂ (λ (u v : ℕ). cellAt cells (cellNumber width (cellOf u) (cellOf v)) .flags) ex ey in
+      sym (off k slices s (s .q .bsv) flags (s .q .flags / 1 % 2) (omega (arith, same, zero)))
+
+  pub horizontal-none : x ≡ toLuma (acrossFor k) (l + 1) → y ≡ toLuma (downFor k) e
+      → flags ≡ cellAt cells (cellNumber width (cellOf x) (cellOf y)) .flags → flags / 2 % 2 ≡ 0
+      → none ≡ horizontalSegment k cells slices starts log2 width e l
+  unfolding horizontalSegment horizontalSides
+  horizontal-none ex ey ef zero =
+      let s : Sides = horizontalSides cells starts log2 width (toLuma (acrossFor k) (l + 1)) (toLuma (downFor k) e) in
+      let same : flags ≡ s .q .flags = ef ∙ ap₂ (λ (u v : ℕ). cellAt cells (cellNumber width (cellOf u) (cellOf v)) .flags) ex ey in
+      sym (off k slices s (s .q .bsh) flags (s .q .flags / 2 % 2) (omega (arith, same, zero)))
 
 flag-bit : (n : ℕ) → eqb (n % 2) 1 ≡ bit n 0
 flag-bit n = let one : n ≡ n / 1 = omega arith in ap (λ (m : ℕ). eqb (m % 2) 1) one

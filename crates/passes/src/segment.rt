@@ -3,6 +3,7 @@ use crate::Frame;
 use picture::CellColumn;
 use segments::Component;
 use segments::Segment;
+use segments::flags_at;
 use segments::horizontal_sides;
 use segments::luma_column;
 use segments::luma_row;
@@ -48,6 +49,10 @@ pub(crate) fn vertical_segment(
 {
     let x = luma_column(k, e);
     let y = luma_row(k, row + 1);
+    let flags = flags_at(cells, CellColumn(f.width), x, y);
+    if flags % 2 == 0 {
+        return;
+    }
     let v = vertical_sides(cells, starts, f.log2, CellColumn(f.width), x, y);
     let q = v.q;
     let r = segment_filter(k, slices, v.p, q, q.flags % 2 == 1, q.bsv, v.same);
@@ -71,6 +76,10 @@ pub(crate) fn horizontal_segment(
 {
     let column = luma_column(k, x + 1);
     let y = luma_row(k, e);
+    let flags = flags_at(cells, CellColumn(f.width), column, y);
+    if flags / 2 % 2 == 0 {
+        return;
+    }
     let v = horizontal_sides(cells, starts, f.log2, CellColumn(f.width), column, y);
     let q = v.q;
     let r = segment_filter(k, slices, v.p, q, q.flags / 2 % 2 == 1, q.bsh, v.same);

@@ -93,6 +93,11 @@ module _ (k : Component) (slices : List ℕ) (p q : Cell) (flag : Bool) (bS : �
 
 -- ---- the two sides
 
+pub flags-made : (cells : List ℕ) (w x y cq nq : ℕ) (Q : Cell) → cq ≡ cellOf x → nq ≡ cellNumber w cq (cellOf y) → Q ≡ cellAt cells nq
+    → Q .flags ≡ cellAt cells (cellNumber w (cellOf x) (cellOf y)) .flags
+flags-made cells w x y cq nq Q ecq enq eq =
+    ap (λ (c : Cell). c .flags) (eq ∙ ap (cellAt cells) (enq ∙ ap (λ (c : ℕ). cellNumber w c (cellOf y)) ecq))
+
 module _ (cells starts : List ℕ) (log2 w x y : ℕ) (cq cp nq np : ℕ) (P Q : Cell) (t : Bool) where
   pub vertical-made : cq ≡ cellOf x → nq ≡ cellNumber w cq (cellOf y) → Q ≡ cellAt cells nq
       → cp ≡ cellOf (x - 1) → np ≡ cellNumber w cp (cellOf y) → P ≡ cellAt cells np

@@ -4,6 +4,7 @@ mod neighbours;
 mod scales;
 
 pub use between::segment_filter;
+pub use neighbours::flags_at;
 pub use neighbours::horizontal_sides;
 pub use neighbours::vertical_sides;
 use picture::Cell;

@@ -9,7 +9,18 @@ use picture::same_tile_row;
 ghost use mathlib.Core.Path.{_≡_};
 ghost use Prim.Native.Nat.{_+_, _*_, _/_, _^_, _≤_, _<_};
 ghost use lib.ListN.{length};
+ghost use Rattle.picture.specs.Cell.{cellAt, cellNumber};
+ghost use Rattle.picture.specs.Scale.{cellOf};
 ghost use Rattle.segments.specs.Sides.{verticalSides, horizontalSides};
+
+// The flags of Q alone: most segments have no edge, and then nothing else of them is read.
+pub fn flags_at(cells: &[u8], width: CellColumn, x: LumaColumn, y: usize) -> u8
+    requires { ⌜ (y / 4 * width .0 + x .0 / 4 < 2 ^ 32) × (8 * (y / 4 * width .0 + x .0 / 4) + 8 ≤ length (now cells)) ⌝ }
+    ensures { λ r. ⌜ r ≡ cellAt (now (cells .entry)) (cellNumber (width .0) (cellOf (x .0)) (cellOf y)) .flags ⌝ }
+{
+    let q = cell_at(cells, cell_number(width, x.cell(), y / 4));
+    q.flags
+}
 
 // P is left of Q.
 pub fn vertical_sides(
