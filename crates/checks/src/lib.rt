@@ -2,6 +2,7 @@
 mod cells;
 mod ledger;
 mod lengths;
+mod numbers;
 mod samples;
 mod settings;
 mod slices;
@@ -14,6 +15,8 @@ pub use lengths::bad_lengths;
 pub use lengths::bad_lists;
 pub use lengths::bad_planes;
 pub use lengths::chroma_samples;
+pub use numbers::number_of;
+pub use numbers::place_of;
 pub use samples::first_bad_original;
 pub use samples::first_bad_sample;
 pub use samples::largest_at;

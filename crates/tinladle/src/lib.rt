@@ -1,8 +1,6 @@
 // The filter for programs in other languages: one function under C's calling convention. include/tinladle.h declares it.
-mod numbers;
-
-use crate::numbers::number_of;
-use crate::numbers::place_of;
+use checks::number_of;
+use checks::place_of;
 use picture::Settings;
 use stage::apply_deblocking;
 ghost use mathlib.Core.Path.{_≡_};

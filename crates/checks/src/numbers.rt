@@ -1,7 +1,7 @@
-// An answer as two numbers, for a language that has no such enum.
-use checks::Verdict;
+// An answer as two numbers, for a caller that has no such enum.
+use crate::Verdict;
 ghost use mathlib.Core.Path.{_≡_};
 ghost use Rattle.checks.specs.Numbered.{numbered};
 
 // The ledger's number of an answer.
 pub fn number_of(answer: Verdict) -> u32

@@ -1,0 +1,109 @@
+"""The refusal ledger of document 01, in Python: which number and place a picture is answered with.
+
+Written from document 01 alone. It shares nothing with the stage, nor with the customer's Rust, which
+refuses nothing. `verdict` takes a Picture of picture_records.py: any fields at all.
+"""
+
+# Chroma format: by what the width and the height of the luma plane are divided. Format 0 has empty chroma planes.
+SCALES = {1: (2, 2), 2: (2, 1), 3: (1, 1)}
+
+CELL_BYTES = 8
+SLICE_BYTES = 4
+
+
+def chroma_length(picture):
+    if picture.format == 0:
+        return 0
+    across, down = SCALES[picture.format]
+    return (picture.width // across) * (picture.height // down)
+
+
+def size_allowed(n):
+    return n in range(8, 8193, 8)
+
+
+def lengths_exact(picture):
+    luma = picture.width * picture.height
+    chroma = chroma_length(picture)
+    for y, cb, cr in [[len(plane) for plane in picture.planes], picture.out_lengths]:
+        if (y, cb, cr) != (luma, chroma, chroma):
+            return False
+    if len(picture.cells) != CELL_BYTES * (luma // 16):
+        return False
+    if len(picture.slices) % SLICE_BYTES or len(picture.slices) > 2400:
+        return False
+    return 1 <= len(picture.columns) <= 20 and 1 <= len(picture.rows) <= 22
+
+
+def slice_allowed(record):
+    disabled, beta, tc, across = record
+    return disabled <= 1 and beta <= 12 and tc <= 12 and across <= 1
+
+
+def first_bad_start(starts, samples, log2_ctb):
+    """The number of the first start out of rule, or None."""
+    ctbs = -(-samples // 2 ** log2_ctb)
+    before = None
+    for number, start in enumerate(starts):
+        in_order = start == 0 if before is None else start > before
+        if not in_order or start >= ctbs:
+            return number
+        before = start
+    return None
+
+
+def cell_allowed(record, luma_depth, slice_count):
+    qp, flags, bs_v, bs_h, low, high, zero_6, zero_7 = record
+    return (-6 * (luma_depth - 8) <= qp - 64 <= 51
+            and flags < 16 and bs_v <= 2 and bs_h <= 2
+            and low + 256 * high < slice_count
+            and zero_6 == 0 and zero_7 == 0)
+
+
+def records(data, size):
+    return [data[start:start + size] for start in range(0, len(data), size)]
+
+
+def first_bad(allowed):
+    """The place of the first False, or None."""
+    return next((place for place, good in enumerate(allowed) if not good), None)
+
+
+def verdict(picture):
+    """Number and place; (0, 0) for an accepted picture."""
+    if not size_allowed(picture.width) or not size_allowed(picture.height):
+        return 1, 0
+    if picture.format > 3:
+        return 2, 0
+    if not all(8 <= depth <= 16 for depth in (picture.luma_depth, picture.chroma_depth)):
+        return 3, 0
+    if not 4 <= picture.log2_ctb <= 6:
+        return 4, 0
+    if not all(-12 <= offset <= 12 for offset in (picture.cb_offset, picture.cr_offset)):
+        return 5, 0
+    if not lengths_exact(picture):
+        return 6, 0
+
+    place = first_bad(slice_allowed(record) for record in records(picture.slices, SLICE_BYTES))
+    if place is not None:
+        return 7, place
+
+    column = first_bad_start(picture.columns, picture.width, picture.log2_ctb)
+    if column is not None:
+        return 8, column
+    row = first_bad_start(picture.rows, picture.height, picture.log2_ctb)
+    if row is not None:
+        return 8, len(picture.columns) + row
+
+    slice_count = max(1, len(picture.slices) // SLICE_BYTES)
+    place = first_bad(cell_allowed(record, picture.luma_depth, slice_count)
+                      for record in records(picture.cells, CELL_BYTES))
+    if place is not None:
+        return 9, place
+
+    y, cb, cr = picture.planes
+    place = first_bad([sample < 2 ** picture.luma_depth for sample in y]
+                      + [sample < 2 ** picture.chroma_depth for sample in (*cb, *cr)])
+    if place is not None:
+        return 10, place
+    return 0, 0
