@@ -1,0 +1,5 @@
+pub mod Cropped
+pub mod Counted
+pub mod Tiles
+pub mod Same
+pub mod Compared
