@@ -25,7 +25,7 @@ pub(crate) fn biased_offset(offset: i32) -> u8
 }
 
 // The chroma rows of luma rows.
-fn chroma_rows(format: u32, n: usize) -> usize
+pub fn chroma_rows(format: u32, n: usize) -> usize
     ensures { λ r. ⌜ r ≡ fromLuma (chromaDown format) n ⌝ }
 {
     if format == 0 {

@@ -35,8 +35,8 @@ fn deblock(
     if settings.chroma_format == 0 {
         return;
     }
-    let blue = biased_offset(settings.cb_qp_offset);
-    let red = biased_offset(settings.cr_qp_offset);
+    let cb_offset = biased_offset(settings.cb_qp_offset);
+    let cr_offset = biased_offset(settings.cr_qp_offset);
     finish_chroma(
         outcb,
         cb,
@@ -45,7 +45,7 @@ fn deblock(
         columns,
         rows,
         settings,
-        blue,
+        cb_offset,
         restoring,
     );
     finish_chroma(
@@ -56,7 +56,7 @@ fn deblock(
         columns,
         rows,
         settings,
-        red,
+        cr_offset,
         restoring,
     );
 }

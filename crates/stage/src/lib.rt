@@ -3,4 +3,5 @@ mod components;
 mod driver;
 mod planes_of;
 
+pub use components::chroma_rows;
 pub use driver::apply_deblocking;

@@ -1,6 +1,6 @@
 -- A tile of an accepted picture: what the code needs of it, and that what the code compares is the tile and its cut.
-use Prim.Native.Nat.{ℕ, _+_, _*_, _/_, _≤_, _<_}
-use mathlib.Core.Path.{_≡_, refl, sym, ap, _∙_, subst}
+use Prim.Native.Nat.{ℕ, _*_, _≤_, _<_}
+use mathlib.Core.Path.{_≡_, sym, ap, _∙_, subst}
 use mathlib.Core.Bool.{Bool, true, false, cond}
 use mathlib.Core.List.{List, []}
 use native.Mathlib.Omega.{arith}
@@ -12,13 +12,12 @@ use Rattle.filter.specs.Count.{differences}
 use Rattle.filter.specs.Finished.{outputs}
 use Rattle.picture.specs.declared.Settings as Code
 use Rattle.picture.specs.Accepted.{Accepted, PlanesOk}
-use Rattle.picture.specs.Cut.{IsTile, tilePart, cellPart, cut}
+use Rattle.picture.specs.Cut.{IsTile, tilePart, cut}
 use Rattle.picture.specs.Given.{given, planes}
 use Rattle.picture.specs.Ledger.{acceptance, anyOf, verdict}
-use Rattle.picture.specs.Picture.{Picture, Planes, planeOf, planeWidth, planeHeight}
+use Rattle.picture.specs.Picture.{Picture, Planes, planeWidth, planeHeight}
 use Rattle.picture.specs.Plane.{Part}
 use Rattle.picture.specs.Scale.{Component, Y, Cb, Cr, Sampling, whole, halved, absent, samplingAcross, samplingDown, fromLuma, cellOf}
-use Rattle.picture.specs.Tile.{tileFirst, tileEnd}
 use Rattle.picture.proofs.Causes.{eq-not, not-eq, none-in, none-out}
 use Rattle.tiles_apart.proofs.Parts.{Inside}
 use Rattle.tiles_apart.proofs.Term3.{term3}

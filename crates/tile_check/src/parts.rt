@@ -2,13 +2,14 @@
 use crate::Part;
 use picture::LumaColumn;
 use picture::Settings;
+use stage::chroma_rows;
 ghost use mathlib.Core.Path.{_≡_};
 ghost use mathlib.Core.List.{[]};
 ghost use Prim.Native.Nat.{_<_, _≤_, _*_, _^_};
 ghost use lib.ListN.{length};
 ghost use Rattle.picture.specs.Cut.{tilePart, cellPart};
 ghost use Rattle.picture.specs.Given.{given, planes};
-ghost use Rattle.picture.specs.Scale.{Y, chromaAcross, chromaDown, fromLuma};
+ghost use Rattle.picture.specs.Scale.{Y};
 ghost use Rattle.picture.specs.Tile.{tileFirst, tileEnd};
 ghost use Rattle.tile_check.specs.Parts.{partOf, chromaPart, bytesPart, OnPicture};
 
@@ -53,19 +54,6 @@ pub(crate) fn luma_part(
         width: right - x,
         height: bottom - y,
     }
-}
-
-// The chroma rows of luma rows.
-fn chroma_rows(format: u32, n: usize) -> usize
-    ensures { λ r. ⌜ r ≡ fromLuma (chromaDown format) n ⌝ }
-{
-    if format == 0 {
-        return 0;
-    }
-    if format == 1 {
-        return n / 2;
-    }
-    n
 }
 
 // The same in a chroma plane.

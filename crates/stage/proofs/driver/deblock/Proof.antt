@@ -24,11 +24,11 @@ abbrev lent : tie.Start → Planes
 lent st = planes (st .args .outy .now) (st .args .outcb .now) (st .args .outcr .now)
 
 -- the struct's fields 6 and 7 fit, so each is the same number when it is passed on
-blue : (c : tie.After-struct-told) → toZ w32 (ofZ w32 (c .before .before .before .before .before .before .before .before .before .before .before .before .before .before .before .before .before .before .args .settings .«cb_qp_offset»)) ≡ c .before .before .before .before .before .before .before .before .before .before .before .before .before .before .before .before .before .before .args .settings .«cb_qp_offset»
-blue c = toZ-ofZ (sfits-of (c .struct-told .given .1 .1 .1 .1 .1 .1 .0 .1))
+cb-offset : (c : tie.After-struct-told) → toZ w32 (ofZ w32 (c .before .before .before .before .before .before .before .before .before .before .before .before .before .before .before .before .before .before .args .settings .«cb_qp_offset»)) ≡ c .before .before .before .before .before .before .before .before .before .before .before .before .before .before .before .before .before .before .args .settings .«cb_qp_offset»
+cb-offset c = toZ-ofZ (sfits-of (c .struct-told .given .1 .1 .1 .1 .1 .1 .0 .1))
 
-red : (c : tie.After-struct-told2) → toZ w32 (ofZ w32 (c .before .before .before .before .before .before .before .before .before .before .before .before .before .before .before .before .before .before .before .before .args .settings .«cr_qp_offset»)) ≡ c .before .before .before .before .before .before .before .before .before .before .before .before .before .before .before .before .before .before .before .before .args .settings .«cr_qp_offset»
-red c = toZ-ofZ (sfits-of (c .struct-told2 .given .1 .1 .1 .1 .1 .1 .1 .0 .1))
+cr-offset : (c : tie.After-struct-told2) → toZ w32 (ofZ w32 (c .before .before .before .before .before .before .before .before .before .before .before .before .before .before .before .before .before .before .before .before .args .settings .«cr_qp_offset»)) ≡ c .before .before .before .before .before .before .before .before .before .before .before .before .before .before .before .before .before .before .before .before .args .settings .«cr_qp_offset»
+cr-offset c = toZ-ofZ (sfits-of (c .struct-told2 .given .1 .1 .1 .1 .1 .1 .1 .0 .1))
 
 any-suppressed-requires : tie.Need-any-suppressed-requires
 any-suppressed-requires c κs = search needs
@@ -51,7 +51,7 @@ biased-offset-requires : tie.Need-biased-offset-requires
 biased-offset-requires c κs = search needs
 
 biased-offset-requires-2 : tie.Need-biased-offset-requires-2
-biased-offset-requires-2 c κs = rw (sym (red c)) at (c .before .before .before .before .before .before .before .before .before .before .before .before .before .before .before .before .before .before .before .before .pre .settings .cr)
+biased-offset-requires-2 c κs = rw (sym (cr-offset c)) at (c .before .before .before .before .before .before .before .before .before .before .before .before .before .before .before .before .before .before .before .before .pre .settings .cr)
 
 finish-chroma-requires : tie.Need-finish-chroma-requires
 finish-chroma-requires c κs =
@@ -79,8 +79,8 @@ returns-2 c =
     let st = c .before .before .before .before .before .before .before .before .before .before .before .before .before .before .before .before .before .before .before .before .before .before .before .before .before .before .before .before .before in
     planes-finished (picture st) _ _ _
     (plane-finished (picture st) 12 Y tt _ (c .before .before .before .before .before .before .before .before .before .before .before .before .before .before .before .before .finish-luma .ensures))
-    (plane-finished (picture st) _ Cb (c .before .before .before .before .before .before .before .before .before .before .biased-offset .ensures ∙ (blue (c .before .before .before .before .before .before .before .before .before .before .before))) _ (c .before .before .before .before .before .before .finish-chroma .ensures))
-    (plane-finished (picture st) _ Cr (c .before .before .before .before .before .before .before .before .biased-offset2 .ensures ∙ (red (c .before .before .before .before .before .before .before .before .before))) _ (c .before .before .finish-chroma2 .ensures))
+    (plane-finished (picture st) _ Cb (c .before .before .before .before .before .before .before .before .before .before .biased-offset .ensures ∙ (cb-offset (c .before .before .before .before .before .before .before .before .before .before .before))) _ (c .before .before .before .before .before .before .finish-chroma .ensures))
+    (plane-finished (picture st) _ Cr (c .before .before .before .before .before .before .before .before .biased-offset2 .ensures ∙ (cr-offset (c .before .before .before .before .before .before .before .before .before))) _ (c .before .before .finish-chroma2 .ensures))
 
 pub deblock-spec : {M : Type 1} → statement M
 deblock-spec =

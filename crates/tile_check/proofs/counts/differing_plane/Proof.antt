@@ -1,11 +1,10 @@
 -- `differing_plane` meets its contract. The loop's invariant: n samples of the first y rows differ.
 -- Assumes nothing.
-use Prim.Native.Nat.{ℕ, _+_, _-_, _*_, _≤_}
-use mathlib.Core.Path.{_≡_, refl, ap, _∙_}
+use Prim.Native.Nat.{_+_, _-_, _*_, _≤_}
+use mathlib.Core.Path.{_≡_, refl}
 use native.Mathlib.Omega.{arith}
-use borrow.Author.Needs.{needs}
 use Rattle.planes.proofs.Index.{row-step, row-le}
-use Rattle.tile_check.specs.Parts.{partOf, RowRoom}
+use Rattle.tile_check.specs.Parts.{partOf}
 use Rattle.tile_check.proofs.Counted.{rowsTo, rows-more, rows-all, row-few, own-row, out-row, cut-small}
 use Rattle.tile_check.proofs.counts.differing_plane.Statement.{statement}
 use Rattle.tile_check.proofs.counts.differing_plane.Tie as tie

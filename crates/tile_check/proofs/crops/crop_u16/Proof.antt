@@ -1,6 +1,6 @@
 -- `crop_u16` meets its contract. The loop's invariant: the first k samples are copied.
 -- Assumes nothing.
-use Prim.Native.Nat.{_*_, _-_, _<_, _≤_}
+use Prim.Native.Nat.{_-_, _≤_}
 use mathlib.Core.Path.{_≡_, refl, _∙_}
 use native.Mathlib.Omega.{arith}
 use borrow.Author.Count.{below-none}

@@ -1,6 +1,6 @@
 -- `differing_samples` meets its contract: the three counts.
 -- Assumes nothing.
-use mathlib.Core.Path.{refl, _∙_}
+use mathlib.Core.Path.{_∙_}
 use borrow.Author.Needs.{needs}
 use Rattle.tile_check.proofs.Same.{room-as, long-as, differing-as, add3}
 use Rattle.tile_check.proofs.cuts.differing_samples.Statement.{statement}

@@ -1,6 +1,6 @@
 -- `check_tile` meets its contract: a refusal, or the tile compared; and by term 3 no sample differs.
 -- Assumes nothing.
-use mathlib.Core.Path.{_≡_, refl, _∙_}
+use mathlib.Core.Path.{_∙_}
 use borrow.Author.Needs.{needs}
 use Rattle.checks.proofs.Refusals.{refuses}
 use Rattle.picture.specs.Given.{given, planes}

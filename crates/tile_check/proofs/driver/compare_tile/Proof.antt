@@ -1,10 +1,9 @@
 -- `compare_tile` meets its contract: no such tile, a list of another length, or the count.
 -- Assumes nothing.
-use mathlib.Core.Path.{_≡_, refl, ap, _∙_}
-use mathlib.Core.List.{List}
+use mathlib.Core.Path.{refl, ap}
 use native.Mathlib.Omega.{arith}
 use borrow.Author.Needs.{needs}
-use Rattle.picture.specs.Given.{given, planes}
+use Rattle.picture.specs.Given.{planes}
 use Rattle.picture.specs.Picture.{Planes}
 use Rattle.tile_check.specs.Answer.{Scratch, scratch}
 use Rattle.tile_check.specs.Parts.{partOf}
