@@ -1,6 +1,7 @@
 /* Calls tinladle_deblock as a C program does. Every buffer lies between guard words; guards and inputs must stay as they were, and on a
  * refusal the junk in the output planes too. The expected samples are document 01's figures: of S1, a step from 100 to 104 at QP 37 and
  * bS 2 becomes 100 101 101 102 103 103 104 104. The refusals are the small inputs of its ledger, and a few more. */
+#include <stddef.h>
 #include <stdio.h>
 #include <stdlib.h>
 #include <string.h>
@@ -198,31 +199,32 @@ static void chroma_cases(void) {
     done(&p);
 }
 
+/* Settings one past an end, and where each stands in struct Picture; all are of 32 bits. */
+static const struct Setting {
+    const char *name;
+    size_t offset;
+    int32_t value;
+    uint32_t number;
+} bad_settings[] = {
+    { "1: width 12", offsetof(struct Picture, width), 12, 1 },
+    { "1: width 0", offsetof(struct Picture, width), 0, 1 },
+    { "1: height 8200", offsetof(struct Picture, height), 8200, 1 },
+    { "2: format 4", offsetof(struct Picture, format), 4, 2 },
+    { "3: luma depth 7", offsetof(struct Picture, luma_depth), 7, 3 },
+    { "3: chroma depth 17", offsetof(struct Picture, chroma_depth), 17, 3 },
+    { "4: log2 CTB 3", offsetof(struct Picture, log2_ctb), 3, 4 },
+    { "4: log2 CTB 7", offsetof(struct Picture, log2_ctb), 7, 4 },
+    { "5: Cb offset 13", offsetof(struct Picture, cb_offset), 13, 5 },
+    { "5: Cr offset -13", offsetof(struct Picture, cr_offset), -13, 5 },
+};
+
 static void refused_settings(void) {
-    struct Picture p = accepted();
-    p.width = 12;
-    refused(&p, "1: width 12", 1, 0);
-    p = accepted();
-    p.height = 8200;
-    refused(&p, "1: height 8200", 1, 0);
-    p = accepted();
-    p.format = 4;
-    refused(&p, "2: format 4", 2, 0);
-    p = accepted();
-    p.luma_depth = 7;
-    refused(&p, "3: luma depth 7", 3, 0);
-    p = accepted();
-    p.chroma_depth = 17;
-    refused(&p, "3: chroma depth 17", 3, 0);
-    p = accepted();
-    p.log2_ctb = 3;
-    refused(&p, "4: log2 CTB 3", 4, 0);
-    p = accepted();
-    p.cb_offset = 13;
-    refused(&p, "5: Cb offset 13", 5, 0);
-    p = accepted();
-    p.cr_offset = -13;
-    refused(&p, "5: Cr offset -13", 5, 0);
+    for (size_t i = 0; i < sizeof bad_settings / sizeof *bad_settings; i++) {
+        const struct Setting *t = &bad_settings[i];
+        struct Picture p = accepted();
+        memcpy((char *)&p + t->offset, &t->value, sizeof t->value);
+        refused(&p, t->name, t->number, 0);
+    }
 }
 
 static void refused_lengths(void) {

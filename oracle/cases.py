@@ -20,15 +20,14 @@ is 5, so that the limits are:
 
 import subprocess
 import sys
-from pathlib import Path
 
 sys.dont_write_bytecode = True
 
 import bench_model
 from bench_model import BETA_TABLE, TC_TABLE
 from records import RECORD, Random, answers, random_record, record, tally
+from stored import ROOT, store
 
-ROOT = Path(__file__).resolve().parent.parent
 ORACLE = ROOT / "target" / "oracle" / "bench"
 NAMES = ["p3", "p2", "p1", "p0", "q0", "q1", "q2", "q3"]
 
@@ -379,11 +378,7 @@ def main():
     files = {"crates/segment_bench/stdin": s1_data, "crates/segment_bench/stdout": s1_output,
              "crates/bench_cases/stdin": data, "crates/bench_cases/stdout": output,
              "oracle/cases.txt": listing.encode()}
-    for name, content in files.items():
-        if not checking:
-            (ROOT / name).write_bytes(content)
-        elif (ROOT / name).read_bytes() != content:
-            sys.exit(f"{name} is not what cases.py would write")
+    store(files, checking)
     print(f"{len(cases)} records; {tally(found)}")
 
 

@@ -10,15 +10,13 @@ script stops where they are not so. pictures.txt lists the records: number, answ
 """
 
 import sys
-from pathlib import Path
 
 sys.dont_write_bytecode = True
 
 from ledger import SCALES
 from picture_records import HORIZONTAL, LOSSLESS, PCM, VERTICAL, Picture, expected, random_picture, tally
 from records import Random
-
-ROOT = Path(__file__).resolve().parent.parent
+from stored import store
 
 
 class Case:
@@ -507,11 +505,7 @@ def main():
              "crates/picture_cases/stdout": "".join(lines).encode(),
              "oracle/pictures.txt": "".join(f"{number:3}  {answer:6}  {name}\n"
                                             for number, (answer, name) in enumerate(names, 1)).encode()}
-    for name, content in files.items():
-        if not checking:
-            (ROOT / name).write_bytes(content)
-        elif (ROOT / name).read_bytes() != content:
-            sys.exit(f"{name} is not what pictures.py would write")
+    store(files, checking)
     size = len(files["crates/picture_cases/stdin"])
     print(f"{len(lines)} records of {size} bytes in all; {tally(lines)}; {counts}")
 

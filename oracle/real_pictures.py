@@ -1,7 +1,8 @@
 #!/usr/bin/env python3
 """The stored real pictures, and the text that is expected of them.
 
-    real_pictures.py [--check] [REAL]   writes (or checks) stdin and stdout of crates/real_pictures
+    real_pictures.py [--check] [REAL]          writes (or checks) stdin and stdout of crates/real_pictures
+    real_pictures.py --compare PROGRAM [REAL]  runs PROGRAM on every picture of REAL
 
 REAL is the folder of real pictures, by default ../shared/real seen from the repository's root. The
 checksums are of the planes in it, which another decoder filtered, and not of the oracle's or the stage's.
@@ -9,6 +10,7 @@ checksums are of the planes in it, which another decoder filtered, and not of th
 
 import gzip
 import struct
+import subprocess
 import sys
 from pathlib import Path
 
@@ -16,8 +18,9 @@ sys.dont_write_bytecode = True
 
 from ledger import verdict
 from picture_records import ORACLE, line, oracle, unpack
+from stored import ROOT, store
 
-ROOT = Path(__file__).resolve().parent.parent
+REAL = ROOT / ".." / "shared" / "real"
 NAMES = ["f422_12_q40_ctu16_000", "culossless_422_q10_000", "inj_all_444_10_000"]
 
 
@@ -38,13 +41,26 @@ def read(folder, name):
     return data, picture, planes
 
 
+def compare(program, folder):
+    """PROGRAM, target/bin/real_pictures, on every picture there; status 1 at a difference."""
+    names = sorted(path.name.removesuffix(".sheet.gz") for path in folder.glob("*.sheet.gz"))
+    found = [read(folder, name) for name in names]
+    wanted = "".join(line(number, (0, 0), planes) for number, (_, _, planes) in enumerate(found, 1))
+    given = b"".join(data for data, _, _ in found)
+    if subprocess.run([program], input=given, stdout=subprocess.PIPE, check=True).stdout.decode() != wanted:
+        sys.exit("a difference")
+    print(f"{len(names)} real pictures, no difference")
+
+
 def main():
     arguments = sys.argv[1:]
+    if arguments[:1] == ["--compare"] and len(arguments) in (2, 3):
+        return compare(arguments[1], Path(arguments[2]) if arguments[2:] else REAL)
     checking = arguments[:1] == ["--check"]
     rest = arguments[checking:]
     if len(rest) > 1:
         sys.exit(__doc__)
-    folder = Path(rest[0]) if rest else ROOT / ".." / "shared" / "real"
+    folder = Path(rest[0]) if rest else REAL
 
     found = [read(folder, name) for name in NAMES]
     if ORACLE.exists():
@@ -52,11 +68,7 @@ def main():
     lines = [line(number, (0, 0), planes) for number, (_, _, planes) in enumerate(found, 1)]
     files = {"crates/real_pictures/stdin": b"".join(data for data, _, _ in found),
              "crates/real_pictures/stdout": "".join(lines).encode()}
-    for name, content in files.items():
-        if not checking:
-            (ROOT / name).write_bytes(content)
-        elif (ROOT / name).read_bytes() != content:
-            sys.exit(f"{name} is not what real_pictures.py would write")
+    store(files, checking)
     print(f"{len(found)} real pictures")
 
 
