@@ -1,5 +1,6 @@
 pub mod Cropped
 pub mod Counted
 pub mod Tiles
+pub mod Sizes
 pub mod Same
 pub mod Compared

@@ -3,7 +3,7 @@ use Prim.Native.Nat.{ℕ, _*_}
 use mathlib.Core.Path.{_≡_}
 use mathlib.Core.Bool.{Bool, cond, not}
 use mathlib.Core.List.{List, [], _∷_, _++_}
-use lib.Dec.{leb, eqb}
+use lib.Dec.{leb, ltb, eqb}
 use lib.ListN.{length}
 use Rattle.checks.specs.Numbered.{numbered}
 use Rattle.filter.specs.Count.{differences}
@@ -14,6 +14,7 @@ use Rattle.picture.specs.Cut.{cut}
 use Rattle.picture.specs.Ledger as Ledger
 use Rattle.picture.specs.Ledger.{anyOf, badPlanes, verdict}
 use Rattle.picture.specs.Picture.{Picture, Planes}
+use Rattle.tile_check.specs.declared.CutSize.{CutSize}
 use Rattle.tile_check.specs.declared.TileAnswer.{TileAnswer}
 use Rattle.tile_check.specs.declared.TileAnswer.the-variants.{Refused, NoTile, Lengths, Differing}
 use Rattle.tiles_apart.specs.Term3.{AcceptedTile}
@@ -42,6 +43,12 @@ scratch originals cells own = record { originals = originals; cells = cells; own
 -- tile (i, j) is not there
 abbrev pub noTileAt : Picture → ℕ → ℕ → List Bool
 noTileAt p i j = leb (length (p .columns)) i ∷ leb (length (p .rows)) j ∷ []
+
+-- the luma columns and rows of the cut of tile (i, j); none where there is no such tile, or no such size of CTB
+unfoldable pub cutSize : Picture → ℕ → ℕ → CutSize
+cutSize p i j =
+    cond (anyOf (ltb 6 (p .settings .log2-ctb) ∷ noTileAt p i j)) (record { width = 0; height = 0 })
+    (record { width = cut p i j .width; height = cut p i j .height })
 
 -- a list lent for the cut q has not its exact length
 abbrev pub badCells : Picture → List ℕ → List Bool

@@ -7,11 +7,18 @@ mod parts;
 
 use checks::Verdict;
 pub use driver::check_tile;
+pub use parts::cut_size;
 
 // A part of a plane: its first column and row, its columns and rows.
 pub(crate) struct Part {
     pub x: usize,
     pub y: usize,
+    pub width: usize,
+    pub height: usize,
+}
+
+// The luma columns and rows of a cut.
+pub struct CutSize {
     pub width: usize,
     pub height: usize,
 }
