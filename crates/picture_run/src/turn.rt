@@ -1,4 +1,8 @@
 // One record after another. Each function answers whether to go on: not past the end of the input, nor after a write that failed.
+use crate::CELL_BYTES;
+use crate::JUNK;
+use crate::SAMPLES;
+use crate::Task;
 use crate::head::fit;
 use crate::head::is_marked;
 use crate::head::length_at;
@@ -7,22 +11,16 @@ use crate::lists::read_bytes;
 use crate::lists::read_numbers;
 use crate::report::put_line;
 use crate::report::stop;
+use crate::tiles::tile_lines;
 use libc::STDIN_FILENO;
 use stage::apply_deblocking;
-
-const SAMPLES: usize = 40000;
-
-const CELL_BYTES: usize = 20000;
 
 const SLICE_BYTES: usize = 4000;
 
 const STARTS: usize = 40;
 
-// What the output planes hold before the stage.
-const JUNK: u16 = 43981;
-
 // Runs the stage and writes the line.
-fn answer(
+fn stage_line(
     number: u64,
     head: &[u8; 80],
     y: &[u16],
@@ -70,7 +68,7 @@ fn with_outputs(
     let mut outy = [JUNK; SAMPLES];
     let mut outcb = [JUNK; SAMPLES];
     let mut outcr = [JUNK; SAMPLES];
-    answer(
+    stage_line(
         number,
         head,
         y,
@@ -86,8 +84,28 @@ fn with_outputs(
     )
 }
 
+// What the task asks for, of one picture.
+fn answer(
+    task: Task,
+    number: u64,
+    head: &[u8; 80],
+    y: &[u16],
+    cb: &[u16],
+    cr: &[u16],
+    cells: &[u8],
+    slices: &[u8],
+    columns: &[u16],
+    rows: &[u16],
+) -> bool {
+    match task {
+        Task::Stage => with_outputs(number, head, y, cb, cr, cells, slices, columns, rows),
+        Task::Tiles => tile_lines(number, head, y, cb, cr, cells, slices, columns, rows),
+    }
+}
+
 // The lists after the planes.
 fn read_lists(
+    task: Task,
     number: u64,
     head: &[u8; 80],
     y: &[u16],
@@ -110,10 +128,10 @@ fn read_lists(
     if !read_numbers(&mut rows[..]) {
         return stop(b"short\n");
     }
-    with_outputs(number, head, y, cb, cr, cells, slices, columns, rows)
+    answer(task, number, head, y, cb, cr, cells, slices, columns, rows)
 }
 
-fn with_lists(number: u64, head: &[u8; 80], y: &[u16], cb: &[u16], cr: &[u16]) -> bool {
+fn with_lists(task: Task, number: u64, head: &[u8; 80], y: &[u16], cb: &[u16], cr: &[u16]) -> bool {
     let a = length_at(head, 6, CELL_BYTES);
     let b = length_at(head, 7, SLICE_BYTES);
     let c = length_at(head, 8, STARTS);
@@ -123,6 +141,7 @@ fn with_lists(number: u64, head: &[u8; 80], y: &[u16], cb: &[u16], cr: &[u16]) -
     let mut columns = [0u16; STARTS];
     let mut rows = [0u16; STARTS];
     read_lists(
+        task,
         number,
         head,
         y,
@@ -137,6 +156,7 @@ fn with_lists(number: u64, head: &[u8; 80], y: &[u16], cb: &[u16], cr: &[u16]) -
 
 // The original planes.
 fn read_planes(
+    task: Task,
     number: u64,
     head: &[u8; 80],
     y: &mut [u16],
@@ -152,17 +172,17 @@ fn read_planes(
     if !read_numbers(&mut cr[..]) {
         return stop(b"short\n");
     }
-    with_lists(number, head, y, cb, cr)
+    with_lists(task, number, head, y, cb, cr)
 }
 
-fn with_planes(number: u64, head: &[u8; 80]) -> bool {
+fn with_planes(task: Task, number: u64, head: &[u8; 80]) -> bool {
     let a = length_at(head, 0, SAMPLES);
     let b = length_at(head, 1, SAMPLES);
     let c = length_at(head, 2, SAMPLES);
     let mut y = [0u16; SAMPLES];
     let mut cb = [0u16; SAMPLES];
     let mut cr = [0u16; SAMPLES];
-    read_planes(number, head, &mut y[..a], &mut cb[..b], &mut cr[..c])
+    read_planes(task, number, head, &mut y[..a], &mut cb[..b], &mut cr[..c])
 }
 
 fn all_fit(head: &[u8; 80]) -> bool {
@@ -179,7 +199,7 @@ fn all_fit(head: &[u8; 80]) -> bool {
 }
 
 // The next record.
-fn one_picture(number: u64) -> bool {
+fn one_picture(task: Task, number: u64) -> bool {
     let mut head = [0u8; 80];
     let got = io::read_full(STDIN_FILENO, &mut head);
     if got == 0 {
@@ -194,13 +214,23 @@ fn one_picture(number: u64) -> bool {
     if !all_fit(&head) {
         return stop(b"too large\n");
     }
-    with_planes(number, &head)
+    with_planes(task, number, &head)
 }
 
 // A proved loop has to end, and nothing says that the input does. So the loop counts its turns, to a number that no run reaches.
-pub fn run() {
+fn run(task: Task) {
     let mut number = 1;
-    while number < u64::MAX && one_picture(number) {
+    while number < u64::MAX && one_picture(task, number) {
         number += 1;
     }
+}
+
+// A line for each picture: the stage's answer and what it left.
+pub fn run_stage() {
+    run(Task::Stage);
+}
+
+// A line for each tile of each picture: term 3 tried.
+pub fn run_tiles() {
+    run(Task::Tiles);
 }

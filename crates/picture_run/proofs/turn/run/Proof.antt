@@ -6,10 +6,10 @@ use Rattle.picture_run.proofs.turn.run.Statement.{statement}
 use Rattle.picture_run.proofs.turn.run.Tie as tie
 
 abbrev Inv-loop : tie.InvT-loop
-Inv-loop number₀ number = Unit {0}
+Inv-loop task number₀ number = Unit {0}
 
 abbrev μ-loop : tie.MeasureT-loop
-μ-loop number₀ number = 18446744073709551615 - number
+μ-loop task number₀ number = 18446744073709551615 - number
 
 loop-holds : tie.Need-loop-holds Inv-loop μ-loop
 loop-holds c = search needs

@@ -18,23 +18,23 @@ length-at-requires-3 c κs = search needs
 array-borrow-prefix-outy : tie.Need-array-borrow-prefix-outy
 array-borrow-prefix-outy c = search needs
 
-slice-aggregate-answer : tie.Need-slice-aggregate-answer
-slice-aggregate-answer c = simp length-take (omega arith)
+slice-aggregate-stage-line : tie.Need-slice-aggregate-stage-line
+slice-aggregate-stage-line c = simp length-take (omega arith)
 
 array-borrow-prefix-outcb : tie.Need-array-borrow-prefix-outcb
 array-borrow-prefix-outcb c = search needs
 
-slice-aggregate-answer-2 : tie.Need-slice-aggregate-answer-2
-slice-aggregate-answer-2 c = simp length-take (omega arith)
+slice-aggregate-stage-line-2 : tie.Need-slice-aggregate-stage-line-2
+slice-aggregate-stage-line-2 c = simp length-take (omega arith)
 
 array-borrow-prefix-outcr : tie.Need-array-borrow-prefix-outcr
 array-borrow-prefix-outcr c = search needs
 
-slice-aggregate-answer-3 : tie.Need-slice-aggregate-answer-3
-slice-aggregate-answer-3 c = simp length-take (omega arith)
+slice-aggregate-stage-line-3 : tie.Need-slice-aggregate-stage-line-3
+slice-aggregate-stage-line-3 c = simp length-take (omega arith)
 
-answer-requires : tie.Need-answer-requires
-answer-requires c κs = search needs
+stage-line-requires : tie.Need-stage-line-requires
+stage-line-requires c κs = search needs
 
 returns : tie.Need-returns
 returns c = search needs
@@ -47,10 +47,10 @@ with-outputs-spec =
     length-at-requires-2
     length-at-requires-3
     array-borrow-prefix-outy
-    slice-aggregate-answer
+    slice-aggregate-stage-line
     array-borrow-prefix-outcb
-    slice-aggregate-answer-2
+    slice-aggregate-stage-line-2
     array-borrow-prefix-outcr
-    slice-aggregate-answer-3
-    answer-requires
+    slice-aggregate-stage-line-3
+    stage-line-requires
     returns)
