@@ -1,6 +1,5 @@
--- Document 01: "The plane view carries lent samples with their width and height (as RefPlane in the Rust's src/mc.rs): a struct holding
--- &[u16], width and height; few thin accessors that call covered functions on slice and numbers." What they answer, over the list of the
--- samples.
+-- Document 01: "The plane view carries lent samples with their width and height, as `RefPlane` in src/mc.rs does." What its accessors answer,
+-- over the list of the samples.
 use Prim.Native.Nat.{ℕ, _+_, _*_}
 use mathlib.Core.Bool.{Bool, cond, _&&_}
 use mathlib.Core.List.{List}
