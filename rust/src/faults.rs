@@ -1,0 +1,140 @@
+//! The words of a refusal after its cause: what of the picture is wrong at the place that the stage named.
+//!
+//! Nothing is decided here. Were nothing wrong to be found, the words would be missing, and number and place would stand.
+
+use crate::picture::Picture;
+use crate::records::{Cell, Slice};
+use crate::refusal::Cause;
+use crate::settings::Plane;
+
+/// The faults that hold, joined.
+fn those<const N: usize>(faults: [(bool, String); N]) -> String {
+    let holding: Vec<String> = faults.into_iter().filter(|fault| fault.0).map(|fault| fault.1).collect();
+    holding.join(", ")
+}
+
+pub(crate) fn detail(cause: Cause, place: u64, picture: &Picture<'_>, out_lengths: [usize; 3]) -> String {
+    let s = &picture.settings;
+    let size = |n: u32| !(8..=8192).contains(&n) || !n.is_multiple_of(8);
+    let depth = |n: u32| !(8..=16).contains(&n);
+    let offset = |n: i32| !(-12..=12).contains(&n);
+    match cause {
+        Cause::Size => {
+            those([(size(s.width), format!("width {}", s.width)), (size(s.height), format!("height {}", s.height))])
+        }
+        Cause::ChromaFormat => format!("format {}", s.chroma_format),
+        Cause::Depth => those([
+            (depth(s.luma_depth), format!("luma depth {}", s.luma_depth)),
+            (depth(s.chroma_depth), format!("chroma depth {}", s.chroma_depth)),
+        ]),
+        Cause::CtbSize => s.log2_ctb.to_string(),
+        Cause::ChromaOffset => those([
+            (offset(s.cb_qp_offset), format!("Cb offset {}", s.cb_qp_offset)),
+            (offset(s.cr_qp_offset), format!("Cr offset {}", s.cr_qp_offset)),
+        ]),
+        Cause::Length => length(picture, out_lengths),
+        Cause::Slice => slice(picture, place),
+        Cause::TileStart => tile_start(picture, place),
+        Cause::Cell => cell(picture, place),
+        Cause::Sample => sample(picture, place),
+    }
+}
+
+/// The first list that is not of its length.
+fn length(picture: &Picture<'_>, out_lengths: [usize; 3]) -> String {
+    let s = &picture.settings;
+    for (i, plane) in Plane::ALL.into_iter().enumerate() {
+        let wanted = s.plane_len(plane);
+        for (kind, given) in [("", picture.plane(plane).len()), ("output ", out_lengths[i])] {
+            if given as u64 != wanted {
+                return format!("{kind}{plane} has {given} samples, not {wanted}");
+            }
+        }
+    }
+    if picture.cells.len() as u64 != s.cell_bytes() {
+        return format!("the cells have {} bytes, not {}", picture.cells.len(), s.cell_bytes());
+    }
+    let bytes = picture.slices.len();
+    if !bytes.is_multiple_of(Slice::BYTES) {
+        return format!("the slices have {bytes} bytes, not a multiple of 4");
+    }
+    if bytes > Slice::BYTES * Slice::MOST {
+        return format!("the slices have {bytes} bytes, above 2400");
+    }
+    for (kind, starts, most) in [("column", picture.tile_columns, 20), ("row", picture.tile_rows, 22)] {
+        if starts.is_empty() || starts.len() > most {
+            return format!("{} tile {kind} starts, not 1 to {most}", starts.len());
+        }
+    }
+    String::new()
+}
+
+/// Record number `place` of a list of records.
+fn record<const N: usize>(bytes: &[u8], place: u64) -> Option<[u8; N]> {
+    let at = usize::try_from(place).ok()?.checked_mul(N)?;
+    bytes.get(at..at.checked_add(N)?)?.try_into().ok()
+}
+
+fn slice(picture: &Picture<'_>, place: u64) -> String {
+    let Some([disabled, beta, tc, across]) = record::<4>(picture.slices, place) else { return String::new() };
+    those([
+        (disabled > 1, format!("disabled byte {disabled}")),
+        (beta > 12, format!("beta offset byte {beta}")),
+        (tc > 12, format!("tc offset byte {tc}")),
+        (across > 1, format!("filter-across byte {across}")),
+    ])
+}
+
+fn tile_start(picture: &Picture<'_>, place: u64) -> String {
+    let columns = picture.tile_columns.len();
+    let place = usize::try_from(place).unwrap_or(usize::MAX);
+    let (kind, starts, samples, at) = if place < columns {
+        ("column", picture.tile_columns, picture.settings.width, place)
+    } else {
+        ("row", picture.tile_rows, picture.settings.height, place - columns)
+    };
+    let Some(&start) = starts.get(at) else { return String::new() };
+    // Refusal 4 comes first, so the CTB size is in range here.
+    let ctbs = samples.div_ceil(1 << picture.settings.log2_ctb.min(31));
+    let begins = format!("tile {kind} {at} starts at CTB {start}");
+    if at == 0 && start != 0 {
+        format!("{begins}, not 0")
+    } else if at > 0 && start <= starts[at - 1] {
+        format!("{begins}, not above {}", starts[at - 1])
+    } else {
+        format!("{begins} of {ctbs}")
+    }
+}
+
+fn cell(picture: &Picture<'_>, place: u64) -> String {
+    let Some([qp, flags, left, top, low, high, six, seven]) = record::<{ Cell::BYTES }>(picture.cells, place) else {
+        return String::new();
+    };
+    // Refusal 3 comes first, so the depth is in range here.
+    let lowest = 64 - 6 * i64::from(picture.settings.luma_depth.saturating_sub(8));
+    let slices = (picture.slices.len() / Slice::BYTES).max(1);
+    let own = u16::from_le_bytes([low, high]);
+    those([
+        (i64::from(qp) < lowest || qp > 64 + 51, format!("QP byte {qp}")),
+        (flags > 15, format!("flags byte {flags}")),
+        (left > 2, format!("left bS {left}")),
+        (top > 2, format!("top bS {top}")),
+        (usize::from(own) >= slices, format!("slice {own} of {slices}")),
+        (six != 0, format!("byte 6 is {six}")),
+        (seven != 0, format!("byte 7 is {seven}")),
+    ])
+}
+
+fn sample(picture: &Picture<'_>, place: u64) -> String {
+    let mut left = place;
+    for plane in Plane::ALL {
+        let samples = picture.plane(plane);
+        if left < samples.len() as u64 {
+            // Refusal 3 comes first, so the depth is in range here.
+            let largest = (1u64 << picture.settings.depth(plane).min(16)) - 1;
+            return format!("{plane} sample {left} is {}, the largest is {largest}", samples[left as usize]);
+        }
+        left -= samples.len() as u64;
+    }
+    String::new()
+}

@@ -1,0 +1,89 @@
+//! The HEVC deblocking filter (ITU-T H.265, clause 8.7.2) on one whole picture.
+//!
+//! [`deblock`] is a safe call of the proved C function `tinladle_deblock`: it answers any input with a filtered picture or with one
+//! of ten [refusals](Cause), and filters each tile as if it were a picture alone. The papers of the project call a picture a sheet.
+//!
+//! ```
+//! use tinladle::{Bs, Cell, Cells, ChromaFormat, Picture, PlanesBuf, Settings, deblock};
+//!
+//! // 16 by 8, luma alone: 100 left of column 8 and 104 from there on, with an edge of bS 2 between.
+//! let settings = Settings::new(16, 8, ChromaFormat::Monochrome);
+//! let y: Vec<u16> = (0..16 * 8).map(|i| if i % 16 < 8 { 100 } else { 104 }).collect();
+//! let mut cells = Cells::filled(&settings, Cell::new(37)?);
+//! for row in 0..cells.rows() {
+//!     cells.set(2, row, Cell::new(37)?.left_edge(Bs::Two));
+//! }
+//! let picture = Picture {
+//!     settings,
+//!     y: &y,
+//!     cb: &[],
+//!     cr: &[],
+//!     cells: cells.as_bytes(),
+//!     slices: &[],
+//!     tile_columns: &[0],
+//!     tile_rows: &[0],
+//! };
+//! let mut out = PlanesBuf::filled([16 * 8, 0, 0], 0);
+//! deblock(&picture, &mut out.planes())?;
+//! assert_eq!(out.y[4..12], [100, 101, 101, 102, 103, 103, 104, 104]);
+//!
+//! let bad = Picture { settings: Settings { width: 12, ..settings }, ..picture };
+//! let refusal = deblock(&bad, &mut out.planes()).unwrap_err();
+//! assert_eq!((refusal.number(), refusal.place()), (1, 0));
+//! assert_eq!(refusal.to_string(), "refused 1: width or height is not allowed: width 12");
+//! # Ok::<(), Box<dyn std::error::Error>>(())
+//! ```
+
+// The example in README.md is tested with the others.
+#[cfg(doctest)]
+#[doc = include_str!("../README.md")]
+struct Readme;
+
+pub mod container;
+pub mod cut;
+pub mod image;
+
+mod faults;
+mod ffi;
+mod picture;
+mod records;
+mod refusal;
+mod settings;
+
+pub use picture::{Picture, PictureBuf, Planes, PlanesBuf};
+pub use records::{Bs, Cell, Cells, OutOfRange, Slice, Slices};
+pub use refusal::{Cause, Refusal};
+pub use settings::{ChromaFormat, Plane, Settings};
+
+/// Filters a picture: on `Ok` the output planes hold the filtered samples, on a refusal what they held before.
+///
+/// Every picture is allowed, of any numbers and lengths: the stage makes every check itself. It runs on the caller's thread, allocates
+/// nothing and keeps nothing, so any number of threads may call it on planes of their own.
+///
+/// Output planes cannot overlap one another or an input, since that does not compile:
+///
+/// ```compile_fail,E0499
+/// let mut one = vec![0u16; 64];
+/// let out = tinladle::Planes { y: &mut one, cb: &mut one, cr: &mut [] };
+/// drop(out);
+/// ```
+///
+/// ```compile_fail,E0502
+/// # use tinladle::*;
+/// # let settings = Settings::new(8, 8, ChromaFormat::Monochrome);
+/// # let cells = Cells::filled(&settings, Cell::new(37).unwrap());
+/// let mut y = vec![0u16; 64];
+/// let picture = Picture {
+///     settings, y: &y, cb: &[], cr: &[], cells: cells.as_bytes(), slices: &[], tile_columns: &[0], tile_rows: &[0],
+/// };
+/// let _ = deblock(&picture, &mut Planes { y: &mut y, cb: &mut [], cr: &mut [] });
+/// ```
+pub fn deblock(picture: &Picture<'_>, out: &mut Planes<'_>) -> Result<(), Refusal> {
+    let (number, place) = ffi::call(picture, out);
+    if number == 0 {
+        return Ok(());
+    }
+    // The library's contract is that the number is 0 to 10.
+    let cause = Cause::of_number(number).expect("the stage answers with a number from 0 to 10");
+    Err(Refusal::new(cause, place, picture, [out.y.len(), out.cb.len(), out.cr.len()]))
+}

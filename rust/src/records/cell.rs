@@ -1,0 +1,129 @@
+//! Cells: one for each 4 by 4 luma block.
+
+use super::{OutOfRange, byte};
+use crate::settings::Settings;
+
+/// The strength of an edge, the standard's bS.
+#[derive(Clone, Copy, Debug, PartialEq, Eq, Hash)]
+pub enum Bs {
+    /// bS 0: not filtered.
+    Zero,
+    /// bS 1: luma is filtered.
+    One,
+    /// bS 2: luma and chroma are filtered.
+    Two,
+}
+
+const LEFT_EDGE: u8 = 1;
+const TOP_EDGE: u8 = 2;
+const LOSSLESS: u8 = 4;
+const PCM: u8 = 8;
+
+/// One 4 by 4 luma block.
+///
+/// ```
+/// use tinladle::{Bs, Cell};
+/// let cell = Cell::new(37)?.left_edge(Bs::Two).lossless().slice(258);
+/// assert_eq!(cell.to_bytes(), [101, 5, 2, 0, 2, 1, 0, 0]);
+/// assert_eq!(Cell::new(52).unwrap_err().to_string(), "QP 52 is outside -48 to 51");
+/// # Ok::<(), tinladle::OutOfRange>(())
+/// ```
+#[derive(Clone, Copy, Debug, PartialEq, Eq)]
+pub struct Cell {
+    bytes: [u8; 8],
+}
+
+impl Cell {
+    /// The bytes of one cell in [`Picture::cells`](crate::Picture::cells).
+    pub const BYTES: usize = 8;
+
+    /// A cell of slice 0 without edges or marks. The QP is from -48, the lowest at depth 16, to 51.
+    pub fn new(qp: i32) -> Result<Self, OutOfRange> {
+        let qp = byte("QP", qp, -48, 51, 64)?;
+        Ok(Cell { bytes: [qp, 0, 0, 0, 0, 0, 0, 0] })
+    }
+
+    /// With an edge on its left side.
+    #[must_use]
+    pub fn left_edge(mut self, bs: Bs) -> Self {
+        self.bytes[1] |= LEFT_EDGE;
+        self.bytes[2] = bs as u8;
+        self
+    }
+
+    /// With an edge on its top side.
+    #[must_use]
+    pub fn top_edge(mut self, bs: Bs) -> Self {
+        self.bytes[1] |= TOP_EDGE;
+        self.bytes[3] = bs as u8;
+        self
+    }
+
+    /// Suppressed: it keeps its original samples.
+    #[must_use]
+    pub fn lossless(mut self) -> Self {
+        self.bytes[1] |= LOSSLESS;
+        self
+    }
+
+    /// PCM: suppressed where the picture's PCM switch is on.
+    #[must_use]
+    pub fn pcm(mut self) -> Self {
+        self.bytes[1] |= PCM;
+        self
+    }
+
+    /// Of the slice with this number, as [`Slices::push`] returned it.
+    #[must_use]
+    pub fn slice(mut self, number: u16) -> Self {
+        [self.bytes[4], self.bytes[5]] = number.to_le_bytes();
+        self
+    }
+
+    /// The record.
+    pub fn to_bytes(self) -> [u8; 8] {
+        self.bytes
+    }
+}
+
+/// The cell records of a picture.
+#[derive(Clone, Debug, PartialEq, Eq)]
+pub struct Cells {
+    columns: usize,
+    bytes: Vec<u8>,
+}
+
+impl Cells {
+    /// A cell for each 4 by 4 luma block of the picture, all alike.
+    pub fn filled(settings: &Settings, cell: Cell) -> Self {
+        let columns = (settings.width / 4) as usize;
+        let rows = (settings.height / 4) as usize;
+        Cells { columns, bytes: cell.bytes.repeat(columns * rows) }
+    }
+
+    /// Cells in a row.
+    pub fn columns(&self) -> usize {
+        self.columns
+    }
+
+    /// Rows of cells.
+    pub fn rows(&self) -> usize {
+        (self.bytes.len() / Cell::BYTES).checked_div(self.columns).unwrap_or(0)
+    }
+
+    /// Puts a cell at a column and row of the cells.
+    ///
+    /// # Panics
+    ///
+    /// Where the picture has no such cell, as an index past a slice's end does.
+    pub fn set(&mut self, column: usize, row: usize, cell: Cell) {
+        assert!(column < self.columns && row < self.rows(), "no cell at column {column}, row {row}");
+        let at = Cell::BYTES * (row * self.columns + column);
+        self.bytes[at..at + Cell::BYTES].copy_from_slice(&cell.bytes);
+    }
+
+    /// The records, for [`Picture::cells`](crate::Picture::cells).
+    pub fn as_bytes(&self) -> &[u8] {
+        &self.bytes
+    }
+}

@@ -1,0 +1,93 @@
+//! Slices: what holds for a part of the picture.
+
+use super::{OutOfRange, byte};
+
+/// One slice of a picture. [`Slice::new`] is the slice that an empty list stands for.
+///
+/// ```
+/// use tinladle::Slice;
+/// assert_eq!(Slice::new().to_bytes(), [0, 6, 6, 1]);
+/// assert_eq!(Slice::new().beta_offset_div2(-6)?.tc_offset_div2(3)?.not_across().to_bytes(), [0, 0, 9, 0]);
+/// # Ok::<(), tinladle::OutOfRange>(())
+/// ```
+#[derive(Clone, Copy, Debug, PartialEq, Eq)]
+pub struct Slice {
+    bytes: [u8; 4],
+}
+
+impl Default for Slice {
+    fn default() -> Self {
+        Self::new()
+    }
+}
+
+impl Slice {
+    /// The bytes of one slice in [`Picture::slices`](crate::Picture::slices).
+    pub const BYTES: usize = 4;
+    /// The most slices that a picture has.
+    pub const MOST: usize = 600;
+
+    /// A slice that is filtered, with offsets 0, across its left and top borders too.
+    pub fn new() -> Self {
+        Slice { bytes: [0, 6, 6, 1] }
+    }
+
+    /// Its edges are not filtered.
+    #[must_use]
+    pub fn disabled(mut self) -> Self {
+        self.bytes[0] = 1;
+        self
+    }
+
+    /// With `slice_beta_offset_div2`, -6 to 6.
+    pub fn beta_offset_div2(mut self, offset: i32) -> Result<Self, OutOfRange> {
+        self.bytes[1] = byte("beta offset div2", offset, -6, 6, 6)?;
+        Ok(self)
+    }
+
+    /// With `slice_tc_offset_div2`, -6 to 6.
+    pub fn tc_offset_div2(mut self, offset: i32) -> Result<Self, OutOfRange> {
+        self.bytes[2] = byte("tc offset div2", offset, -6, 6, 6)?;
+        Ok(self)
+    }
+
+    /// The filter does not run across its left and top borders.
+    #[must_use]
+    pub fn not_across(mut self) -> Self {
+        self.bytes[3] = 0;
+        self
+    }
+
+    /// The record.
+    pub fn to_bytes(self) -> [u8; 4] {
+        self.bytes
+    }
+}
+
+/// The slice records of a picture, at most 600.
+#[derive(Clone, Debug, Default, PartialEq, Eq)]
+pub struct Slices {
+    bytes: Vec<u8>,
+}
+
+impl Slices {
+    /// No slice yet.
+    pub fn new() -> Self {
+        Self::default()
+    }
+
+    /// Adds a slice and returns its number, for [`Cell::slice`].
+    pub fn push(&mut self, slice: Slice) -> Result<u16, OutOfRange> {
+        let number = (self.bytes.len() / Slice::BYTES) as u16;
+        if usize::from(number) >= Slice::MOST {
+            return Err(OutOfRange { what: "slice", value: i32::from(number), lowest: 0, largest: 599 });
+        }
+        self.bytes.extend_from_slice(&slice.bytes);
+        Ok(number)
+    }
+
+    /// The records, for [`Picture::slices`](crate::Picture::slices).
+    pub fn as_bytes(&self) -> &[u8] {
+        &self.bytes
+    }
+}

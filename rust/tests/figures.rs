@@ -1,0 +1,109 @@
+//! Document 01's figures, as pictures.
+
+mod common;
+
+use common::{edges, flat, run, samples};
+use tinladle::{Cell, Cells, ChromaFormat, PictureBuf, Settings};
+
+/// Name, QP, the Q side's value, the eight samples across the edge. The P side is 100.
+const SEGMENTS: [(&str, i32, u16, [u16; 8]); 6] = [
+    ("S1", 37, 104, [100, 101, 101, 102, 103, 103, 104, 104]),
+    ("S2", 37, 112, [100, 102, 103, 105, 108, 109, 111, 112]),
+    ("S3", 37, 113, [100, 100, 102, 105, 108, 111, 113, 113]),
+    ("S4", 37, 231, [100, 100, 102, 105, 226, 229, 231, 231]),
+    ("S5", 37, 232, [100, 100, 100, 100, 232, 232, 232, 232]),
+    ("S6", 15, 104, [100, 100, 100, 100, 104, 104, 104, 104]),
+];
+
+/// A picture of one luma plane, every edge set.
+fn luma(width: u32, height: u32, qp: i32, sample: impl Fn(usize, usize) -> u16) -> PictureBuf {
+    let mut picture = flat(Settings::new(width, height, ChromaFormat::Monochrome), edges(qp));
+    picture.planes.y = samples(width as usize, height as usize, sample);
+    picture
+}
+
+#[test]
+fn segments_on_a_vertical_edge() {
+    for (name, qp, q, gives) in SEGMENTS {
+        let picture = luma(16, 8, qp, |x, _| if x < 8 { 100 } else { q });
+        let line = [&[100; 4][..], &gives, &[q; 4]].concat();
+        assert_eq!(run(&picture).unwrap().y, samples(16, 8, |x, _| line[x]), "{name}");
+    }
+}
+
+#[test]
+fn segments_on_a_horizontal_edge() {
+    for (name, qp, q, gives) in SEGMENTS {
+        let picture = luma(8, 16, qp, |_, y| if y < 8 { 100 } else { q });
+        let line = [&[100; 4][..], &gives, &[q; 4]].concat();
+        assert_eq!(run(&picture).unwrap().y, samples(8, 16, |_, y| line[y]), "{name}");
+    }
+}
+
+#[test]
+fn chroma_segments() {
+    for (name, qp, p, q) in [("K1", 37, 54, 56), ("K2", 30, 53, 57)] {
+        let mut picture = flat(Settings::new(32, 16, ChromaFormat::Yuv420), edges(qp));
+        picture.planes.cb = samples(16, 8, |x, _| if x < 8 { 50 } else { 60 });
+        picture.planes.cr = picture.planes.cb.clone();
+        let line = [&[50; 7][..], &[p, q], &[60; 7]].concat();
+        let out = run(&picture).unwrap();
+        assert_eq!(out.cb, samples(16, 8, |x, _| line[x]), "{name}");
+        assert_eq!((&out.cr, &out.y), (&out.cb, &picture.planes.y), "{name}");
+    }
+}
+
+/// 32 by 16, CTB 16, a step of 8 at column 16.
+fn t1(columns: &[u16]) -> PictureBuf {
+    let mut picture = luma(32, 16, 37, |x, _| if x < 16 { 100 } else { 108 });
+    picture.tile_columns = columns.to_vec();
+    picture
+}
+
+#[test]
+fn t1_nothing_crosses_a_tile_border() {
+    let closed = t1(&[0, 1]);
+    assert_eq!(run(&closed).unwrap(), closed.planes);
+    let open = t1(&[0]);
+    assert_ne!(run(&open).unwrap(), open.planes, "with columns 0 it may");
+}
+
+#[test]
+fn a_suppressed_cell_keeps_its_samples_and_closes_no_edge() {
+    // S1's step at column 8; the P side is suppressed, so only the Q side moves.
+    let step = |x: usize, _| if x < 8 { 100 } else { 104 };
+    let [.., q0, q1, q2, q3] = SEGMENTS[0].3;
+    let line = [&[100; 8][..], &[q0, q1, q2, q3], &[104; 4]].concat();
+    for (cell, switch) in [(edges(37).lossless(), false), (edges(37).lossless(), true), (edges(37).pcm(), true)] {
+        let mut picture = luma(16, 8, 37, step);
+        picture.settings.pcm_loop_filter_disabled = switch;
+        let mut cells = Cells::filled(&picture.settings, edges(37));
+        for (column, row) in [(0, 0), (1, 0), (0, 1), (1, 1)] {
+            cells.set(column, row, cell);
+        }
+        picture.cells = cells.as_bytes().to_vec();
+        assert_eq!(run(&picture).unwrap().y, samples(16, 8, |x, _| line[x]));
+    }
+    // PCM with the switch off suppresses nothing.
+    let mut picture = luma(16, 8, 37, step);
+    picture.cells = Cells::filled(&picture.settings, edges(37).pcm()).as_bytes().to_vec();
+    let line = [&[100; 4][..], &SEGMENTS[0].3, &[104; 4]].concat();
+    assert_eq!(run(&picture).unwrap().y, samples(16, 8, |x, _| line[x]));
+}
+
+#[test]
+fn no_slices_stand_for_the_default_slice() {
+    let mut picture = luma(16, 8, 37, |x, _| if x < 8 { 100 } else { 104 });
+    let one = run(&picture).unwrap();
+    picture.slices.clear();
+    assert_eq!(run(&picture).unwrap(), one);
+    picture.slices = tinladle::Slice::new().disabled().to_bytes().to_vec();
+    assert_eq!(run(&picture).unwrap(), picture.planes);
+}
+
+#[test]
+fn no_edge_flag_no_filter() {
+    let mut picture = luma(16, 8, 37, |x, _| if x < 8 { 100 } else { 104 });
+    picture.cells = Cells::filled(&picture.settings, Cell::new(37).unwrap()).as_bytes().to_vec();
+    assert_eq!(run(&picture).unwrap(), picture.planes);
+}
