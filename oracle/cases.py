@@ -26,7 +26,7 @@ sys.dont_write_bytecode = True
 import bench_model
 from bench_model import BETA_TABLE, TC_TABLE
 from records import RECORD, Random, answers, random_record, record, tally
-from stored import ROOT, store
+from stored import ROOT, is_checking, store
 
 ORACLE = ROOT / "target" / "oracle" / "bench"
 NAMES = ["p3", "p2", "p1", "p0", "q0", "q1", "q2", "q3"]
@@ -365,11 +365,7 @@ def run(cases):
 
 
 def main():
-    arguments = sys.argv[1:]
-    checking = arguments == ["--check"]
-    if arguments and not checking:
-        sys.exit(__doc__)
-
+    checking = is_checking(__doc__)
     cases = [case for group in GROUPS for case in group()]
     s1_data, s1_output, _ = run([S1])
     data, output, found = run(cases)

@@ -16,7 +16,7 @@ sys.dont_write_bytecode = True
 from ledger import SCALES
 from picture_records import HORIZONTAL, LOSSLESS, PCM, VERTICAL, Picture, expected, random_picture, tally
 from records import Random
-from stored import store
+from stored import is_checking, store
 
 
 class Case:
@@ -486,11 +486,7 @@ def check_bands(cases, found):
 
 
 def main():
-    arguments = sys.argv[1:]
-    checking = arguments == ["--check"]
-    if arguments and not checking:
-        sys.exit(__doc__)
-
+    checking = is_checking(__doc__)
     cases = [case for group in GROUPS for case in group()]
     found, counts = expected([case.picture for case in cases] + [None])
     for case, (answer, planes, _) in zip(cases, found):

@@ -13,3 +13,11 @@ def store(files, checking):
             (ROOT / name).write_bytes(content)
         elif (ROOT / name).read_bytes() != content:
             sys.exit(f"{name} is not what {Path(sys.argv[0]).name} would write")
+
+
+def is_checking(usage):
+    """Whether the script was called with --check; any other argument gets the usage."""
+    arguments = sys.argv[1:]
+    if arguments not in ([], ["--check"]):
+        sys.exit(usage)
+    return bool(arguments)

@@ -15,9 +15,9 @@ sys.dont_write_bytecode = True
 
 from ledger import SCALES, verdict
 from picture_records import HORIZONTAL, LOSSLESS, PCM, VERTICAL, Picture, checksum, oracle, random_picture
-from pictures import FAULTS, colour, restored, step_at
+from pictures import FAULTS, Case, colour, restored, step_at
 from records import Random
-from stored import store
+from stored import is_checking, store
 
 LISTS = 7  # lists lent for a cut: three originals, the cells, three outputs
 
@@ -94,11 +94,6 @@ def lines(number, picture, answer, planes):
 
 
 # ---- Pictures ----
-
-class Case:
-    def __init__(self, name, picture, number=0, place=0, check=None):
-        self.name, self.picture, self.answer, self.check = name, picture, (number, place), check
-
 
 def on_border(starts, size, cell):
     """A tile border runs along this cell: on the far side of a start, or on the near side."""
@@ -252,10 +247,7 @@ def check_twins(accepted):
 
 
 def main():
-    arguments = sys.argv[1:]
-    checking = arguments == ["--check"]
-    if arguments and not checking:
-        sys.exit(__doc__)
+    checking = is_checking(__doc__)
     cases = [case for group in GROUPS for case in group()]
     for case in cases:
         assert verdict(case.picture) == case.answer, (case.name, case.answer, verdict(case.picture))
