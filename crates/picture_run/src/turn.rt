@@ -1,7 +1,4 @@
 // One record after another. Each function answers whether to go on: not past the end of the input, nor after a write that failed.
-use crate::CELL_BYTES;
-use crate::JUNK;
-use crate::SAMPLES;
 use crate::Task;
 use crate::head::fit;
 use crate::head::is_marked;
@@ -9,15 +6,23 @@ use crate::head::length_at;
 use crate::head::settings;
 use crate::lists::read_bytes;
 use crate::lists::read_numbers;
-use crate::report::put_line;
-use crate::report::stop;
-use crate::tiles::tile_lines;
 use libc::STDIN_FILENO;
+use picture_lines::put_line;
+use picture_lines::stop;
 use stage::apply_deblocking;
+use tile_run::OutputLengths;
+use tile_run::tile_lines;
+
+const SAMPLES: usize = 40000;
+
+const CELL_BYTES: usize = 20000;
 
 const SLICE_BYTES: usize = 4000;
 
 const STARTS: usize = 40;
+
+// What the output planes hold before the stage.
+const JUNK: u16 = 43981;
 
 // Runs the stage and writes the line.
 fn stage_line(
@@ -84,6 +89,14 @@ fn with_outputs(
     )
 }
 
+fn output_lengths(head: &[u8; 80]) -> OutputLengths {
+    OutputLengths {
+        y: length_at(head, 3, SAMPLES),
+        cb: length_at(head, 4, SAMPLES),
+        cr: length_at(head, 5, SAMPLES),
+    }
+}
+
 // What the task asks for, of one picture.
 fn answer(
     task: Task,
@@ -99,7 +112,18 @@ fn answer(
 ) -> bool {
     match task {
         Task::Stage => with_outputs(number, head, y, cb, cr, cells, slices, columns, rows),
-        Task::Tiles => tile_lines(number, head, y, cb, cr, cells, slices, columns, rows),
+        Task::Tiles => tile_lines(
+            number,
+            settings(head),
+            output_lengths(head),
+            y,
+            cb,
+            cr,
+            cells,
+            slices,
+            columns,
+            rows,
+        ),
     }
 }
 
