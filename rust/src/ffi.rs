@@ -2,43 +2,8 @@
 
 #![allow(unsafe_code)]
 
+use crate::library::tinladle_deblock;
 use crate::picture::{Picture, Planes};
-
-// As include/tinladle.h declares it.
-unsafe extern "C" {
-    fn tinladle_deblock(
-        width: u32,
-        height: u32,
-        chroma_format: u32,
-        luma_depth: u32,
-        chroma_depth: u32,
-        log2_ctb: u32,
-        cb_qp_offset: i32,
-        cr_qp_offset: i32,
-        pcm_loop_filter_disabled: bool,
-        y: *const u16,
-        y_len: usize,
-        cb: *const u16,
-        cb_len: usize,
-        cr: *const u16,
-        cr_len: usize,
-        cells: *const u8,
-        cells_len: usize,
-        slices: *const u8,
-        slices_len: usize,
-        tile_columns: *const u16,
-        columns_len: usize,
-        tile_rows: *const u16,
-        rows_len: usize,
-        out_y: *mut u16,
-        out_y_len: usize,
-        out_cb: *mut u16,
-        out_cb_len: usize,
-        out_cr: *mut u16,
-        out_cr_len: usize,
-        place: *mut u64,
-    ) -> u32;
-}
 
 /// The stage's number and place; on 0 the planes hold the filtered picture, else what they held.
 pub(crate) fn call(picture: &Picture<'_>, out: &mut Planes<'_>) -> (u32, u64) {

@@ -45,6 +45,7 @@ pub mod image;
 
 mod faults;
 mod ffi;
+mod library;
 mod picture;
 mod records;
 mod refusal;

@@ -1,0 +1,108 @@
+//! The refusal ledger of document 01 in Rust: which number and place a picture is answered with.
+//!
+//! Written from document 01 alone. It shares nothing with the stage, nor with the customer's Rust, which refuses nothing.
+
+use crate::picture::{CELL_BYTES, Picture, SLICE_BYTES};
+
+/// Number and place; (0, 0) for an accepted picture.
+pub type Verdict = (u32, u64);
+
+pub fn verdict(p: &Picture) -> Verdict {
+    let settings = bad_setting(p);
+    if settings != 0 {
+        return (settings, 0);
+    }
+    if !lengths_exact(p) {
+        return (6, 0);
+    }
+    let lists = [(7, bad_slice(p)), (8, bad_start(p)), (9, bad_cell(p)), (10, bad_sample(p))];
+    for (number, place) in lists {
+        if let Some(place) = place {
+            return (number, place as u64);
+        }
+    }
+    (0, 0)
+}
+
+fn size_allowed(n: u32) -> bool {
+    n % 8 == 0 && (8..=8192).contains(&n)
+}
+
+/// The first of causes 1 to 5, or 0.
+fn bad_setting(p: &Picture) -> u32 {
+    let depths = [p.luma_depth, p.chroma_depth];
+    let offsets = [p.cb_offset, p.cr_offset];
+    let allowed = [
+        size_allowed(p.width) && size_allowed(p.height),
+        p.format <= 3,
+        depths.iter().all(|depth| (8..=16).contains(depth)),
+        (4..=6).contains(&p.log2_ctb),
+        offsets.iter().all(|offset| (-12..=12).contains(offset)),
+    ];
+    allowed.iter().position(|good| !good).map_or(0, |at| at as u32 + 1)
+}
+
+/// Cause 6. The settings are allowed by now.
+fn lengths_exact(p: &Picture) -> bool {
+    let (width, height) = (p.width as usize, p.height as usize);
+    let chroma = match p.format {
+        0 => 0,
+        1 => (width / 2) * (height / 2),
+        2 => (width / 2) * height,
+        _ => width * height,
+    };
+    let wanted = [width * height, chroma, chroma];
+    let given = [0, 1, 2].map(|plane| p.planes[plane].len());
+    given == wanted
+        && p.out_lengths == wanted
+        && p.cells.len() == CELL_BYTES * (width / 4) * (height / 4)
+        && p.slices.len() % SLICE_BYTES == 0
+        && p.slices.len() <= 2400
+        && (1..=20).contains(&p.columns.len())
+        && (1..=22).contains(&p.rows.len())
+}
+
+fn bad_slice(p: &Picture) -> Option<usize> {
+    let allowed = |r: &[u8]| r[0] <= 1 && r[1] <= 12 && r[2] <= 12 && r[3] <= 1;
+    p.slices.chunks(SLICE_BYTES).position(|record| !allowed(record))
+}
+
+/// Rows are numbered on after the columns.
+fn bad_start(p: &Picture) -> Option<usize> {
+    let rows = || first_bad_start(&p.rows, p.height, p.log2_ctb).map(|row| p.columns.len() + row);
+    first_bad_start(&p.columns, p.width, p.log2_ctb).or_else(rows)
+}
+
+fn first_bad_start(starts: &[u16], samples: u32, log2_ctb: u32) -> Option<usize> {
+    let ctbs = samples.div_ceil(1 << log2_ctb);
+    let in_order = |k: usize| if k == 0 { starts[0] == 0 } else { starts[k] > starts[k - 1] };
+    (0..starts.len()).find(|&k| !in_order(k) || u32::from(starts[k]) >= ctbs)
+}
+
+fn bad_cell(p: &Picture) -> Option<usize> {
+    let slices = (p.slices.len() / SLICE_BYTES).max(1);
+    let lowest = -6 * (p.luma_depth as i32 - 8);
+    let allowed = |c: &[u8]| {
+        (lowest..=51).contains(&(i32::from(c[0]) - 64))
+            && c[1] < 16
+            && c[2] <= 2
+            && c[3] <= 2
+            && usize::from(u16::from_le_bytes([c[4], c[5]])) < slices
+            && c[6] == 0
+            && c[7] == 0
+    };
+    p.cells.chunks(CELL_BYTES).position(|cell| !allowed(cell))
+}
+
+/// Counted through Y, Cb, Cr.
+fn bad_sample(p: &Picture) -> Option<usize> {
+    let mut before = 0;
+    for plane in 0..3 {
+        let largest = (1u32 << p.plane_depth(plane)) - 1;
+        if let Some(at) = p.planes[plane].iter().position(|&sample| u32::from(sample) > largest) {
+            return Some(before + at);
+        }
+        before += p.planes[plane].len();
+    }
+    None
+}

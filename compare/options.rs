@@ -1,0 +1,36 @@
+//! The program's arguments.
+
+pub struct Options {
+    pub accepted: u64,
+    pub damaged: u64,
+    pub seed: u64,
+    pub threads: u64,
+    /// Whether a picture on which the two sides differ is made smaller.
+    pub shrink: bool,
+    /// Where it is written.
+    pub smallest: String,
+}
+
+const USAGE: &str = "arguments: --accepted N, --damaged N, --seed S, --threads T, --smallest FILE, --no-shrink";
+
+impl Options {
+    pub fn read(mut words: impl Iterator<Item = String>) -> Result<Options, String> {
+        let cores = std::thread::available_parallelism().map_or(1, |n| n.get() as u64);
+        let smallest = "target/compare/smallest".to_string();
+        let mut options = Options { accepted: 100_000, damaged: 100_000, seed: 20261115, threads: cores, shrink: true, smallest };
+        while let Some(word) = words.next() {
+            let mut value = || words.next().ok_or(USAGE);
+            let number = |text: String| text.parse::<u64>().map_err(|_| format!("not a number: {text}"));
+            match word.as_str() {
+                "--accepted" => options.accepted = number(value()?)?,
+                "--damaged" => options.damaged = number(value()?)?,
+                "--seed" => options.seed = number(value()?)?,
+                "--threads" => options.threads = number(value()?)?.max(1),
+                "--smallest" => options.smallest = value()?,
+                "--no-shrink" => options.shrink = false,
+                _ => return Err(USAGE.into()),
+            }
+        }
+        Ok(options)
+    }
+}

@@ -1,0 +1,137 @@
+//! The stage, called as C calls it. Every buffer lies between guard words, which differ from call to call; the outputs are filled with
+//! junk beforehand.
+
+use crate::library::tinladle_deblock;
+use crate::picture::{PLANE_NAMES, Picture};
+use crate::random::Random;
+
+pub struct Answer {
+    pub number: u32,
+    pub place: u64,
+    pub planes: [Vec<u16>; 3],
+}
+
+/// Guard words on each side of a buffer.
+const GUARDS: usize = 64;
+
+struct Lent<T> {
+    words: Vec<T>,
+    guard: T,
+}
+
+impl<T: Copy + PartialEq> Lent<T> {
+    fn of(items: &[T], guard: T) -> Self {
+        let mut words = vec![guard; GUARDS];
+        words.extend_from_slice(items);
+        words.extend([guard; GUARDS]);
+        Lent { words, guard }
+    }
+
+    fn items(&self) -> &[T] {
+        &self.words[GUARDS..self.words.len() - GUARDS]
+    }
+
+    /// An empty buffer may be lent as the null pointer.
+    fn at(&mut self, null: bool) -> *mut T {
+        if null && self.items().is_empty() {
+            return std::ptr::null_mut();
+        }
+        self.words[GUARDS..].as_mut_ptr()
+    }
+
+    fn len(&self) -> usize {
+        self.items().len()
+    }
+
+    fn guarded(&self) -> bool {
+        let (end, length) = (self.words.len() - GUARDS, self.words.len());
+        [0..GUARDS, end..length].into_iter().flatten().all(|at| self.words[at] == self.guard)
+    }
+}
+
+/// All that one call is lent.
+struct Call {
+    planes: [Lent<u16>; 3],
+    cells: Lent<u8>,
+    slices: Lent<u8>,
+    columns: Lent<u16>,
+    rows: Lent<u16>,
+    outputs: [Lent<u16>; 3],
+    place: Lent<u64>,
+    junk: u16,
+    null: bool,
+}
+
+impl Call {
+    fn of(p: &Picture, random: &mut Random) -> Self {
+        let word = random.next();
+        let (guard, junk) = (word as u16, (word >> 16) as u16);
+        let list = |items: &[u16]| Lent::of(items, guard);
+        Call {
+            planes: [0, 1, 2].map(|plane| list(&p.planes[plane])),
+            cells: Lent::of(&p.cells, guard as u8),
+            slices: Lent::of(&p.slices, guard as u8),
+            columns: list(&p.columns),
+            rows: list(&p.rows),
+            outputs: p.out_lengths.map(|length| list(&vec![junk; length])),
+            place: Lent::of(&[word], !word),
+            junk,
+            null: word >> 63 == 1,
+        }
+    }
+
+    /// Each pointer goes with its own buffer's length, and the buffers lie apart: what include/tinladle.h asks of a caller.
+    #[rustfmt::skip]
+    fn run(&mut self, p: &Picture) -> u32 {
+        let null = self.null;
+        let [y, cb, cr] = &mut self.planes;
+        let [out_y, out_cb, out_cr] = &mut self.outputs;
+        unsafe {
+            tinladle_deblock(
+                p.width, p.height, p.format, p.luma_depth, p.chroma_depth, p.log2_ctb, p.cb_offset, p.cr_offset, p.pcm_switch,
+                y.at(null), y.len(), cb.at(null), cb.len(), cr.at(null), cr.len(),
+                self.cells.at(null), self.cells.len(), self.slices.at(null), self.slices.len(),
+                self.columns.at(null), self.columns.len(), self.rows.at(null), self.rows.len(),
+                out_y.at(null), out_y.len(), out_cb.at(null), out_cb.len(), out_cr.at(null), out_cr.len(),
+                self.place.at(false),
+            )
+        }
+    }
+
+    /// What no answer may change, or what was changed.
+    fn untouched(&self, p: &Picture) -> Result<(), String> {
+        let numbers = self.planes.iter().chain(&self.outputs).chain([&self.columns, &self.rows]);
+        if !numbers.into_iter().all(Lent::guarded) || !self.cells.guarded() || !self.slices.guarded() || !self.place.guarded() {
+            return Err("a guard word was written".into());
+        }
+        for plane in 0..3 {
+            if self.planes[plane].items() != p.planes[plane] {
+                return Err(format!("the original {} was written", PLANE_NAMES[plane]));
+            }
+        }
+        if self.cells.items() != p.cells || self.slices.items() != p.slices {
+            return Err("the cells or the slices were written".into());
+        }
+        if self.columns.items() != p.columns || self.rows.items() != p.rows {
+            return Err("the tile starts were written".into());
+        }
+        Ok(())
+    }
+
+    fn outputs_hold_junk(&self) -> bool {
+        self.outputs.iter().all(|plane| plane.items().iter().all(|&sample| sample == self.junk))
+    }
+}
+
+/// The stage's answer, or what it wrote that it must not.
+pub fn run(p: &Picture, random: &mut Random) -> Result<Answer, String> {
+    let mut call = Call::of(p, random);
+    let number = call.run(p);
+    call.untouched(p)?;
+    let place = call.place.items()[0];
+    if number != 0 && !call.outputs_hold_junk() {
+        return Err(format!("refusal {number} wrote an output plane"));
+    }
+    let planes = call.outputs.map(|lent| lent.items().to_vec());
+    Ok(Answer { number, place, planes })
+}

@@ -1,0 +1,28 @@
+#!/bin/sh
+# The stage beside the customer's Rust on random pictures: compare/run.sh [SRC] [--accepted N] [--damaged N] [--seed S] [--threads T]
+# SRC is the customer's folder docs/src, by default ../shared/docs/src seen from the repository's root. By default 100,000 accepted and
+# 100,000 damaged pictures from seed 20261115, on all cores.
+# Prints a tally. The status is 0 only where nothing differs; at the first difference the smallest picture found that shows it is printed
+# and written to target/compare/smallest, as a record that target/bin/picture_cases reads.
+set -eu
+root=$(cd "$(dirname "$0")/.." && pwd)
+src=$root/../shared/docs/src
+case ${1:-} in
+'' | --*) ;;
+*)
+    src=$1
+    shift
+    ;;
+esac
+src=$(cd "$src" && pwd)
+cd "$root"
+mkdir -p target/oracle target/compare
+ln -sfn "$src" target/oracle/customer
+rt staticlib tinladle >target/compare/staticlib.out 2>&1 || {
+    tail -n 20 target/compare/staticlib.out
+    exit 1
+}
+# Checks stay on: an overflow or a range out of bounds in the customer's code is a difference.
+rustc --edition 2024 -C opt-level=3 -C debug-assertions=on -C overflow-checks=on \
+    -L native=target/staticlib -l static=tinladle -o target/compare/compare compare/main.rs
+target/compare/compare "$@"

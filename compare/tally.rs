@@ -1,0 +1,173 @@
+//! What a run exercised. All of it is sums, so that it does not matter which thread ran what.
+
+use crate::check::Agreed;
+use crate::coverage::{Coverage, Segments};
+use crate::damage;
+use crate::ledger::Verdict;
+use crate::picture::Picture;
+
+/// Counts by a small number: pictures, and segments that the kernels filtered.
+type Table<const N: usize> = [(u64, u64); N];
+
+#[derive(Default)]
+pub struct Tally {
+    pub accepted: u64,
+    pub refused: [u64; 11],
+    several: u64,
+    later_places: u64,
+    kinds: Vec<u64>,
+    coverage: Coverage,
+    strong: u64,
+    weak: u64,
+    chroma: u64,
+    moved: [u64; 3],
+    tiles: u64,
+    tiled: u64,
+    most_tiles: u64,
+    absent_grids: u64,
+    empty_lists: u64,
+    many_slices: u64,
+    luma_samples: u64,
+    sides: [u64; 5],
+    formats: Table<4>,
+    luma_depths: Table<9>,
+    chroma_depths: Table<9>,
+    ctbs: Table<3>,
+}
+
+fn side_class(p: &Picture) -> usize {
+    match p.width.max(p.height) {
+        ..=64 => 0,
+        65..=136 => 1,
+        137..=512 => 2,
+        513..=2048 => 3,
+        _ => 4,
+    }
+}
+
+fn add<const N: usize>(into: &mut Table<N>, from: &Table<N>) {
+    into.iter_mut().zip(from).for_each(|(a, b)| *a = (a.0 + b.0, a.1 + b.1));
+}
+
+impl Tally {
+    pub fn new() -> Self {
+        Tally { kinds: vec![0; damage::kinds().count()], ..Tally::default() }
+    }
+
+    pub fn count_accepted(&mut self, p: &Picture, a: &Agreed) {
+        self.accepted += 1;
+        self.coverage.add(&a.coverage);
+        let (luma, chroma) = (a.calls.strong + a.calls.weak, a.calls.chroma);
+        self.strong += a.calls.strong;
+        self.weak += a.calls.weak;
+        self.chroma += chroma;
+        (0..3).for_each(|plane| self.moved[plane] += a.moved[plane]);
+        self.tiles += a.tiles;
+        self.tiled += u64::from(a.tiles > 1);
+        self.most_tiles = self.most_tiles.max(a.tiles);
+        self.absent_grids += u64::from(a.absent_grid);
+        self.empty_lists += u64::from(p.slices.is_empty());
+        self.many_slices += u64::from(p.slices.len() == 2400);
+        self.luma_samples += p.planes[0].len() as u64;
+        self.sides[side_class(p)] += 1;
+        let count = |entry: &mut (u64, u64), segments: u64| *entry = (entry.0 + 1, entry.1 + segments);
+        count(&mut self.formats[p.format as usize], chroma);
+        count(&mut self.luma_depths[p.luma_depth as usize - 8], luma);
+        if p.format > 0 {
+            count(&mut self.chroma_depths[p.chroma_depth as usize - 8], chroma);
+        }
+        count(&mut self.ctbs[p.log2_ctb as usize - 4], luma + chroma);
+    }
+
+    pub fn count_refused(&mut self, verdict: Verdict, kinds: &[usize]) {
+        self.refused[verdict.0 as usize] += 1;
+        self.later_places += u64::from(verdict.1 > 0);
+        self.several += u64::from(kinds.len() > 1);
+        kinds.iter().for_each(|&kind| self.kinds[kind] += 1);
+    }
+
+    pub fn add(&mut self, more: &Tally) {
+        self.accepted += more.accepted;
+        self.refused.iter_mut().zip(more.refused).for_each(|(a, b)| *a += b);
+        self.kinds.iter_mut().zip(&more.kinds).for_each(|(a, b)| *a += b);
+        self.moved.iter_mut().zip(more.moved).for_each(|(a, b)| *a += b);
+        self.sides.iter_mut().zip(more.sides).for_each(|(a, b)| *a += b);
+        self.several += more.several;
+        self.later_places += more.later_places;
+        self.coverage.add(&more.coverage);
+        self.strong += more.strong;
+        self.weak += more.weak;
+        self.chroma += more.chroma;
+        self.tiles += more.tiles;
+        self.tiled += more.tiled;
+        self.most_tiles = self.most_tiles.max(more.most_tiles);
+        self.absent_grids += more.absent_grids;
+        self.empty_lists += more.empty_lists;
+        self.many_slices += more.many_slices;
+        self.luma_samples += more.luma_samples;
+        add(&mut self.formats, &more.formats);
+        add(&mut self.luma_depths, &more.luma_depths);
+        add(&mut self.chroma_depths, &more.chroma_depths);
+        add(&mut self.ctbs, &more.ctbs);
+    }
+
+    pub fn print(&self) {
+        self.print_pictures();
+        self.print_segments();
+        self.print_refusals();
+    }
+
+    fn print_pictures(&self) {
+        println!("accepted {}; luma samples {}", self.accepted, self.luma_samples);
+        let [a, b, c, d, e] = self.sides;
+        println!("  by the longer side: to 64 {a}, to 136 {b}, to 512 {c}, to 2048 {d}, to 8192 {e}");
+        println!("  tiled {}; tiles beside their cuts {}, most in a picture {}", self.tiled, self.tiles, self.most_tiles);
+        println!(
+            "  also with the absent grid {}; empty slice list {}; 600 slices {}",
+            self.absent_grids, self.empty_lists, self.many_slices
+        );
+        let [y, cb, cr] = self.moved;
+        println!("  samples moved: Y {y}, Cb {cb}, Cr {cr}");
+        let s = &self.coverage.suppressed;
+        println!(
+            "  suppressed cells {}; beside a tile border: before it {}, after it {}, on both sides {}",
+            s.cells, s.before_border, s.after_border, s.on_both_sides
+        );
+        print_table("format (filtered chroma segments)", 0, &self.formats);
+        print_table("luma depth (filtered luma segments)", 8, &self.luma_depths);
+        print_table("chroma depth (filtered chroma segments)", 8, &self.chroma_depths);
+        print_table("log2 CTB (filtered segments)", 4, &self.ctbs);
+    }
+
+    fn print_segments(&self) {
+        let (luma, chroma) = (&self.coverage.luma, &self.coverage.chroma);
+        let skipped = luma.open - luma.tc_zero - self.strong - self.weak;
+        println!("luma segments: strong {}, weak {}, skipped {skipped}, tc 0 {}", self.strong, self.weak, luma.tc_zero);
+        print_closed(luma);
+        println!("chroma segments, Cb and Cr: filtered {}, tc 0 {}", self.chroma, chroma.tc_zero);
+        print_closed(chroma);
+    }
+
+    fn print_refusals(&self) {
+        let refused: u64 = self.refused.iter().sum();
+        println!("refused {refused}; several kinds of damage at once {}; place not 0 {}", self.several, self.later_places);
+        let numbers: Vec<String> = (1..=10).map(|n| format!("{n}: {}", self.refused[n])).collect();
+        println!("  by number: {}", numbers.join(", "));
+        println!("  by kind of damage:");
+        for (kind, count) in damage::kinds().zip(&self.kinds) {
+            println!("    {:>2}  {:<34} {count}", kind.number, kind.name);
+        }
+    }
+}
+
+fn print_closed(s: &Segments) {
+    println!(
+        "  closed: no edge {}, bS too low {}, tile border {}, slice border {}, slice disabled {}; open with a negative average QP {}",
+        s.no_edge, s.low_bs, s.tile_border, s.slice_border, s.disabled, s.negative_qp
+    );
+}
+
+fn print_table<const N: usize>(name: &str, first: usize, table: &Table<N>) {
+    let entries: Vec<String> = table.iter().enumerate().map(|(k, (n, s))| format!("{}: {n} ({s})", first + k)).collect();
+    println!("  by {name}: {}", entries.join(", "));
+}
