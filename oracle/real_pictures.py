@@ -1,8 +1,7 @@
 #!/usr/bin/env python3
 """The stored real pictures, and the text that is expected of them.
 
-    real_pictures.py [--check] [REAL]          writes (or checks) stdin and stdout of crates/real_pictures
-    real_pictures.py --compare PROGRAM [REAL]  runs PROGRAM on every picture of REAL
+    real_pictures.py [--check] [REAL]  writes (or checks) stdin and stdout of crates/real_pictures
 
 REAL is the folder of real pictures, by default ../shared/real seen from the repository's root. The
 checksums are of the planes in it, which another decoder filtered, and not of the oracle's or the stage's.
@@ -10,7 +9,6 @@ checksums are of the planes in it, which another decoder filtered, and not of th
 
 import gzip
 import struct
-import subprocess
 import sys
 from pathlib import Path
 
@@ -21,7 +19,6 @@ from picture_records import ORACLE, line, oracle, unpack
 from stored import ROOT, store
 
 REAL = ROOT / ".." / "shared" / "real"
-NAMES = ["f422_12_q40_ctu16_000", "culossless_422_q10_000", "inj_all_444_10_000"]
 
 
 def read(folder, name):
@@ -41,35 +38,25 @@ def read(folder, name):
     return data, picture, planes
 
 
-def compare(program, folder):
-    """PROGRAM, target/bin/real_pictures, on every picture there; status 1 at a difference."""
-    names = sorted(path.name.removesuffix(".sheet.gz") for path in folder.glob("*.sheet.gz"))
-    found = [read(folder, name) for name in names]
-    wanted = "".join(line(number, (0, 0), planes) for number, (_, _, planes) in enumerate(found, 1))
-    given = b"".join(data for data, _, _ in found)
-    if subprocess.run([program], input=given, stdout=subprocess.PIPE, check=True).stdout.decode() != wanted:
-        sys.exit("a difference")
-    print(f"{len(names)} real pictures, no difference")
-
-
 def main():
     arguments = sys.argv[1:]
-    if arguments[:1] == ["--compare"] and len(arguments) in (2, 3):
-        return compare(arguments[1], Path(arguments[2]) if arguments[2:] else REAL)
     checking = arguments[:1] == ["--check"]
     rest = arguments[checking:]
     if len(rest) > 1:
         sys.exit(__doc__)
     folder = Path(rest[0]) if rest else REAL
 
-    found = [read(folder, name) for name in NAMES]
+    names = sorted(path.name.removesuffix(".sheet.gz") for path in folder.glob("*.sheet.gz"))
+    found = [read(folder, name) for name in names]
+    counts = "the oracle is not built"
     if ORACLE.exists():
-        assert oracle([picture for _, picture, _ in found])[0] == [planes for _, _, planes in found]
+        planes, counts = oracle([picture for _, picture, _ in found])
+        assert planes == [planes for _, _, planes in found]
     lines = [line(number, (0, 0), planes) for number, (_, _, planes) in enumerate(found, 1)]
     files = {"crates/real_pictures/stdin": b"".join(data for data, _, _ in found),
              "crates/real_pictures/stdout": "".join(lines).encode()}
     store(files, checking)
-    print(f"{len(found)} real pictures")
+    print(f"{len(found)} real pictures: {', '.join(names)}; {counts}")
 
 
 if __name__ == "__main__":
