@@ -68,6 +68,8 @@ fn answered(p: &Picture, random: &mut Random) -> Result<[Vec<u16>; 3], String> {
 }
 
 fn check_accepted(p: &Picture, planes: &[Vec<u16>; 3], rust: &mut Rust, random: &mut Random) -> Result<Agreed, String> {
+    // Term 3 first: it needs no witness but the stage, and what it finds must not hide behind the Rust.
+    let tiles = cut::check_tiles(p, planes, random)?;
     let (theirs, calls) = rust.run(p, Grid::Given)?;
     same_planes(p, planes, &theirs, "Rust")?;
     let absent_grid = p.one_tile();
@@ -75,7 +77,6 @@ fn check_accepted(p: &Picture, planes: &[Vec<u16>; 3], rust: &mut Rust, random: 
         same_planes(p, planes, &rust.run(p, Grid::Absent)?.0, "Rust without tiles")?;
     }
     check_empty_list(p, planes, random)?;
-    let tiles = cut::check_tiles(p, planes, random)?;
     let coverage = Coverage::of(p);
     same_counts(&coverage, &calls)?;
     let moved = [0, 1, 2].map(|k| planes[k].iter().zip(&p.planes[k]).filter(|(a, b)| a != b).count() as u64);

@@ -4,7 +4,7 @@
 //! agree; so the tally cannot claim what no kernel did.
 
 use crate::decode;
-use crate::picture::{HORIZONTAL, Picture, VERTICAL};
+use crate::picture::{DEFAULT_SLICE, HORIZONTAL, Picture, SLICE_BYTES, VERTICAL};
 
 /// Segments of luma, or of chroma, where each stands for Cb and for Cr.
 #[derive(Clone, Copy, Default)]
@@ -47,8 +47,8 @@ fn slice_number(cell: &[u8]) -> usize {
     usize::from(u16::from_le_bytes([cell[4], cell[5]]))
 }
 
-fn slice(p: &Picture, number: usize) -> [u8; 4] {
-    if p.slices.is_empty() { [0, 6, 6, 1] } else { p.slices[4 * number..4 * number + 4].try_into().unwrap() }
+fn slice(p: &Picture, number: usize) -> &[u8] {
+    if p.slices.is_empty() { &DEFAULT_SLICE } else { &p.slices[SLICE_BYTES * number..SLICE_BYTES * (number + 1)] }
 }
 
 /// The average QP and the tc offset of an open segment.

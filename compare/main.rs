@@ -16,6 +16,12 @@ mod deblock;
 #[path = "../rust/src/library.rs"]
 mod library;
 
+#[path = "../oracle/lent.rs"]
+mod picture;
+
+#[path = "../oracle/theirs.rs"]
+mod theirs;
+
 mod check;
 mod content;
 mod coverage;
@@ -26,11 +32,9 @@ mod generate;
 mod ledger;
 mod options;
 mod ours;
-mod picture;
 mod random;
 mod shrink;
 mod tally;
-mod theirs;
 
 use options::Options;
 use picture::Picture;

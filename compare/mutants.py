@@ -134,7 +134,9 @@ def compare(folder):
     if done.returncode < 0:
         return f"stopped by signal {-done.returncode}"
     found = [line for line in done.stdout.splitlines() if line.startswith("DIFFERENCE")]
-    return found[0].split(": ", 1)[1] if found else f"status {done.returncode}: {done.stderr.strip()[-200:]}"
+    if not found:
+        sys.exit(f"the comparison failed with status {done.returncode}: {done.stderr.strip()[-200:]}")
+    return found[0].split(": ", 1)[1]
 
 
 def mutate(number, edit):
@@ -181,7 +183,7 @@ def main():
     results = [try_one(number, edit) for number, edit in enumerate(EDITS, 1) if only in (None, number)]
     noticed = sum(not edit.equal for edit in EDITS)
     print(f"{len(results)} mutants of {len(EDITS)} tried, {results.count(True)} as expected; {noticed} of all can be noticed")
-    sys.exit(0 if good and all(results) else 1)
+    sys.exit(0 if good and results and all(results) else 1)
 
 
 if __name__ == "__main__":
