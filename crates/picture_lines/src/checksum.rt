@@ -1,4 +1,4 @@
-// The checksum of a plane: FNV-1a of 64 bits, a sample for a byte.
+// The checksum of a plane: FNV-1a of 64 bits, a sample for a byte. The samples are read through the plane's view.
 use plane_view::Sample;
 use plane_view::plane_sample;
 use std::num::wrapping_add_u64;
@@ -16,17 +16,6 @@ fn times_prime(x: u64) -> u64 {
 
 fn wide(sample: u16) -> u64 {
     sample as u64
-}
-
-// Of a list of samples, of whatever length.
-pub(crate) fn checksum(plane: &[u16]) -> u64 {
-    let mut sum = FIRST;
-    let mut i = 0;
-    while i < plane.len() {
-        sum = times_prime(sum ^ wide(plane[i]));
-        i += 1;
-    }
-    sum
 }
 
 // A place outside the plane adds nothing, so that a plane of another size shows another checksum.
@@ -47,7 +36,7 @@ fn with_row(before: u64, plane: &[u16], size: CutSize, y: usize) -> u64 {
     sum
 }
 
-// Of a plane of this size, read through its view.
+// Of a plane of this size.
 pub(crate) fn plane_checksum(plane: &[u16], size: CutSize) -> u64 {
     let mut sum = FIRST;
     let mut y = 0;
@@ -56,4 +45,13 @@ pub(crate) fn plane_checksum(plane: &[u16], size: CutSize) -> u64 {
         y += 1;
     }
     sum
+}
+
+// Of a list of samples, of whatever length: one row.
+pub(crate) fn checksum(list: &[u16]) -> u64 {
+    let row = CutSize {
+        width: list.len(),
+        height: 1,
+    };
+    plane_checksum(list, row)
 }

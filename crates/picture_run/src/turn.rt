@@ -10,19 +10,15 @@ use libc::STDIN_FILENO;
 use picture_lines::put_line;
 use picture_lines::stop;
 use stage::apply_deblocking;
+use tile_run::CELL_BYTES;
+use tile_run::JUNK;
 use tile_run::OutputLengths;
+use tile_run::SAMPLES;
 use tile_run::tile_lines;
-
-const SAMPLES: usize = 40000;
-
-const CELL_BYTES: usize = 20000;
 
 const SLICE_BYTES: usize = 4000;
 
 const STARTS: usize = 40;
-
-// What the output planes hold before the stage.
-const JUNK: u16 = 43981;
 
 // Runs the stage and writes the line.
 fn stage_line(

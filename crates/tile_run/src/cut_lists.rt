@@ -48,12 +48,17 @@ pub(crate) fn at_most(n: usize, most: usize) -> usize
     n
 }
 
-// The length of the list of this number; that of the list `wrong` is one off.
-pub(crate) fn length_of(number: usize, exact: usize, wrong: usize, most: usize) -> usize
-    requires { ⌜ (exact ≤ most) × (0 < most) ⌝ }
+// The length of a list of 1 to 7, which is the exact one, but for the list `wrong`: one too short at its own number, one too long at seven more.
+pub(crate) fn length_of(list: usize, exact: usize, wrong: usize, most: usize) -> usize
+    requires { ⌜ (list ≤ 7) × ((exact ≤ most) × (0 < most)) ⌝ }
     ensures { λ r. ⌜ r ≤ most ⌝ }
 {
-    if number != wrong {
+    if wrong == list + 7 {
+        if exact < most {
+            return exact + 1;
+        }
+    }
+    if wrong != list {
         return exact;
     }
     if exact == 0 {

@@ -13,9 +13,9 @@ pub struct OutputLengths {
 }
 
 // The most samples and cell bytes that are lent for a cut.
-const SAMPLES: usize = 40000;
+pub const SAMPLES: usize = 40000;
 
-const CELL_BYTES: usize = 20000;
+pub const CELL_BYTES: usize = 20000;
 
 // What a list holds before the check of a tile.
-const JUNK: u16 = 43981;
+pub const JUNK: u16 = 43981;

@@ -167,7 +167,7 @@ fn with_cut(
     )
 }
 
-// Tile (i, j). The lists of its cut have the lengths that it needs, but for the list `wrong` of 1 to 7, which is one off.
+// Tile (i, j). The lists of its cut have the lengths that it needs, but for the list `wrong`, one too short (1 to 7) or one too long (8 to 14).
 pub(crate) fn one_tile(
     number: u64,
     settings: Settings,

@@ -104,7 +104,7 @@ fn tile_rows(
     )
 }
 
-// The first tile, with each list of its cut one off its length in turn.
+// The first tile, with each list of its cut in turn one too short, then one too long.
 fn wrong_lists(
     number: u64,
     settings: Settings,
@@ -118,7 +118,7 @@ fn wrong_lists(
     rows: &[u16],
 ) -> bool {
     let mut wrong = 1;
-    while wrong < 8 {
+    while wrong < 15 {
         if !one_tile(
             number,
             settings,

@@ -9,7 +9,7 @@ abbrev Inv-loop : tie.InvT-loop
 Inv-loop number settings lengths y cb cr cells slices columns rows wrong₀ wrong = Unit {0}
 
 abbrev μ-loop : tie.MeasureT-loop
-μ-loop number settings lengths y cb cr cells slices columns rows wrong₀ wrong = 8 - wrong
+μ-loop number settings lengths y cb cr cells slices columns rows wrong₀ wrong = 15 - wrong
 
 loop-holds : tie.Need-loop-holds Inv-loop μ-loop
 loop-holds c = search needs
