@@ -246,6 +246,17 @@ def quantizers():
         yield Case(f"every QP {qp}, empty slice list", picture)
 
 
+def parting():
+    """Where the Rust and the standard part (docs/DIFFERENCES.md, 1): chroma index 63, which the Rust clips to 57. The standard would
+    leave 108 and 112 at the edge."""
+    picture = Picture(24, 8, format=1, qp=51, cb_offset=12, slices=[(0, 6, 0, 1)])
+    picture.fill(1, lambda x, y: 100 if x < 8 else 120)
+    picture.set_cells(lambda record, x, y: record.__setitem__(slice(1, 3), bytes([VERTICAL, 2] if x == 4 else [0, 0])))
+    gives = 4 * (7 * [100] + [106, 114] + 3 * [120])
+    yield Case("the chroma index is clipped to 57 before it is lowered by 6", picture,
+               check=same_as([picture.planes[0], gives, picture.planes[2]]))
+
+
 def strengths():
     random = Random(9)
     for bs in (0, 1, 2):
@@ -474,7 +485,7 @@ def several_faults():
 
 
 GROUPS = [figures, tile_figures, band_figures, formats_and_depths, sizes, tiles, slices, suppressed, quantizers,
-          strengths, largest_samples, at_random, settings, lengths, slice_records, tile_starts, cells, samples,
+          parting, strengths, largest_samples, at_random, settings, lengths, slice_records, tile_starts, cells, samples,
           several_faults]
 
 

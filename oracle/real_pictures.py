@@ -19,6 +19,7 @@ from picture_records import ORACLE, line, oracle, unpack
 from stored import ROOT, store
 
 REAL = ROOT / ".." / "shared" / "real"
+COUNT = 12
 
 
 def read(folder, name):
@@ -42,11 +43,13 @@ def main():
     arguments = sys.argv[1:]
     checking = arguments[:1] == ["--check"]
     rest = arguments[checking:]
-    if len(rest) > 1:
+    if len(rest) > 1 or rest and rest[0].startswith("-"):
         sys.exit(__doc__)
     folder = Path(rest[0]) if rest else REAL
 
     names = sorted(path.name.removesuffix(".sheet.gz") for path in folder.glob("*.sheet.gz"))
+    if len(names) != COUNT:
+        sys.exit(f"{folder}: {len(names)} real pictures, not {COUNT}")
     found = [read(folder, name) for name in names]
     counts = "the oracle is not built"
     if ORACLE.exists():

@@ -15,11 +15,12 @@ sys.dont_write_bytecode = True
 
 from ledger import SCALES, verdict
 from picture_records import HORIZONTAL, LOSSLESS, PCM, VERTICAL, Picture, checksum, oracle, random_picture
-from pictures import FAULTS, Case, colour, restored, step_at
+from pictures import FAULTS, Case, colour, moves, restored, stays, step_at
 from records import Random
 from stored import is_checking, store
 
 LISTS = 7  # lists lent for a cut: three originals, the cells, three outputs
+PLANES = ["Y", "Cb", "Cr"]
 
 
 # ---- The cut ----
@@ -68,13 +69,13 @@ def tiles_of(picture):
 # ---- The text ----
 
 def places(picture):
-    """What the program tries: each tile row and one place past it, one place below, and seven times the first tile with one of
-    the lists lent for its cut one off its length."""
+    """What the program tries: each tile row and one place past it, one place below, and the first tile with each of the lists
+    lent for its cut one too short (1 to 7) and one too long (8 to 14)."""
     for j in range(len(picture.rows)):
         for i in range(len(picture.columns) + 1):
             yield i, j, 0
     yield 0, len(picture.rows), 0
-    for wrong in range(1, LISTS + 1):
+    for wrong in range(1, 2 * LISTS + 1):
         yield 0, 0, wrong
 
 
@@ -128,12 +129,31 @@ def border_pairs(picture):
     return pairs
 
 
-def marked(picture):
-    """Every pair of marks occurs at the borders; the suppressed cells have their originals, and others have not."""
-    def check(planes):
+def edges(picture, plane):
+    """The columns and rows of edges in a plane: those on a border between tiles, and those within one."""
+    across, down = SCALES[picture.format] if plane else (1, 1)
+    size = 2 ** picture.log2_ctb
+    border, within = [], []
+    for starts, scale, total in [(picture.columns, across, picture.plane_width(plane)),
+                                 (picture.rows, down, picture.plane_height(plane))]:
+        for edge in range(8, total, 8):
+            (border if edge * scale % size == 0 and edge * scale // size in starts else within).append(edge)
+    return border, within
+
+
+class Marked(Case):
+    """Suppressed cells lie on either side of the borders. All that can be filtered is filtered."""
+
+    def __init__(self, name, picture):
+        super().__init__(name, picture, check=self.check_planes)
+
+    def check_planes(self, planes):
+        picture = self.picture
         assert len(border_pairs(picture)) == 4, border_pairs(picture)
         restored(picture)(planes)
-    return check
+        for plane in range(3 if picture.format else 1):
+            within = edges(picture, plane)[1]
+            assert bool(within) == (picture.planes[plane] != planes[plane]), (self.name, PLANES[plane])
 
 
 GRIDS = [(4, 56, 40, [0, 1, 2, 3], [0, 1, 2]), (5, 88, 72, [0, 1, 2], [0, 1, 2]), (6, 136, 72, [0, 1, 2], [0, 1]),
@@ -149,36 +169,47 @@ def grids():
             picture = random_picture(random, width=width, height=height, format=format, luma_depth=luma,
                                      chroma_depth=chroma, log2_ctb=log2_ctb, columns=columns, rows=rows, pcm_switch=1,
                                      slices=[(0, 8, 8, 1), (0, 6, 9, 0)])
-            picture.set_cells(lambda record, x, y: record.__setitem__(slice(0, 4), bytes(
-                [64 + random.between(36, 46), VERTICAL | HORIZONTAL, 2, 2])))
-            mark_borders(random, picture)
-            yield Case(f"format {format}, depths {luma} and {chroma}, CTB {2 ** log2_ctb}, tiles {columns} by {rows}",
-                       picture, check=marked(picture))
+            mark_borders(random, busy(random, picture))
+            yield Marked(f"format {format}, depths {luma} and {chroma}, CTB {2 ** log2_ctb}, tiles {columns} by {rows}",
+                         picture)
+
+
+def busy(random, picture):
+    """Every edge of bS 2 and QPs at which much is filtered."""
+    picture.set_cells(lambda record, x, y: record.__setitem__(slice(0, 4), bytes(
+        [64 + random.between(36, 46), VERTICAL | HORIZONTAL, 2, 2])))
+    return picture
 
 
 def many():
     random = Random(32)
-    for name, width, height in [("12 by 12 tiles of one CTB", 192, 192), ("20 by 7 tiles", 320, 112),
-                                ("7 by 22 tiles", 112, 352)]:
+    for name, width, height, format in [("12 by 12 tiles of one CTB", 192, 192, 0), ("20 by 7 tiles", 320, 112, 1),
+                                        ("7 by 22 tiles", 112, 352, 2), ("9 by 8 tiles", 144, 128, 3)]:
         columns, rows = range(width // 16), range(height // 16)
-        picture = random_picture(random, width=width, height=height, format=0, log2_ctb=4, columns=columns,
-                                 rows=rows, pcm_switch=0)
-        yield Case(name, picture)
+        picture = busy(random, random_picture(random, width=width, height=height, format=format, luma_depth=8,
+                                              chroma_depth=8, log2_ctb=4, columns=columns, rows=rows, pcm_switch=1,
+                                              slices=[(0, 6, 6, 1)]))
+        mark_borders(random, picture)
+        yield Marked(f"{name}, format {format}", picture)
     yield Case("one tile is the picture", random_picture(random, width=40, height=24, format=1, columns=[0], rows=[0]))
     yield Case("8 by 8, one tile", random_picture(random, width=8, height=8, format=3, columns=[0], rows=[0]))
     for format in range(4):
         yield Case(f"the last tile is half a CTB each way, format {format}",
-                   random_picture(random, width=24, height=24, format=format, log2_ctb=4, columns=[0, 1], rows=[0, 1]))
+                   busy(random, random_picture(random, width=24, height=24, format=format, luma_depth=8, log2_ctb=4,
+                                               columns=[0, 1], rows=[0, 1], slices=[])))
 
 
 def figures():
     far = 10 ** 6
-    yield Case("T1: a step at the border of two tiles", step_at(16, far, width=32, height=16, columns=[0, 1]))
-    yield Case("T1 in one tile", step_at(16, far, width=32, height=16))
+    picture = step_at(16, far, width=32, height=16, columns=[0, 1])
+    yield Case("T1: a step at the border of two tiles", picture, check=stays(picture))
+    picture = step_at(16, far, width=32, height=16)
+    yield Case("T1 in one tile", picture, check=moves(picture))
     for flag, name in [(LOSSLESS, "lossless"), (0, "not suppressed")]:
         picture = step_at(8, far, width=32, height=16, columns=[0, 1])
+        picture.fill(0, lambda x, y: 100 if x < 8 else 108 if x < 16 else 112)
         picture.set_cells(lambda record, x, y: record.__setitem__(1, 3 | (flag if x >= 4 else 0)))
-        yield Case(f"a step within the left tile, the right tile {name}", picture)
+        yield Case(f"steps within the left tile and on the border, the right tile {name}", picture, check=moves(picture))
 
 
 def twins():
@@ -239,6 +270,30 @@ def check_cuts(accepted):
     return len(cuts)
 
 
+def opened(picture):
+    """The picture as one tile: no border is closed."""
+    again = Picture.__new__(Picture)
+    again.__dict__.update(picture.__dict__, columns=[0], rows=[0])
+    return again
+
+
+def check_borders(accepted):
+    """The tiles matter: as one tile, each picture is filtered otherwise; a marked one in every plane that has an edge on a border."""
+    tiled = [(case, planes) for case, planes in accepted if len(tiles_of(case.picture)) > 1]
+    filtered, _ = oracle([opened(case.picture) for case, _ in tiled])
+    for (case, planes), other in zip(tiled, filtered):
+        assert planes[0] != other[0], case.name
+        for plane in range(3 if case.picture.format else 1):
+            if isinstance(case, Marked) and edges(case.picture, plane)[0]:
+                assert planes[plane] != other[plane], (case.name, PLANES[plane])
+
+
+def check_neighbour(accepted):
+    """A neighbour's marks move nothing: the left tile is the same beside a lossless tile as beside another."""
+    left = [tile_planes(case.picture, planes, 0, 0) for case, planes in accepted if "steps within" in case.name]
+    assert len(left) == 2 and left[0] == left[1]
+
+
 def check_twins(accepted):
     found = [(case, planes) for case, planes in accepted if " is tile " in case.name]
     for (first, ours), (second, theirs) in zip(found[::2], found[1::2]):
@@ -257,6 +312,8 @@ def main():
         if case.check:
             case.check(planes)
     tiles = check_cuts(accepted)
+    check_borders(accepted)
+    check_neighbour(accepted)
     check_twins(accepted)
     planes_of = {id(case): planes for case, planes in accepted}
     text = [line for number, case in enumerate(cases, 1)
