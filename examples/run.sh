@@ -1,6 +1,7 @@
 #!/bin/sh
-# Builds everything and deblocks the shipped example: examples/run.sh
-# Needs the Rattle kit's rt, cargo and rustc. What it writes goes to target/example.
+# Proves the library (rt staticlib tinladle), builds the tool and deblocks the shipped example: examples/run.sh
+# Needs the Rattle kit's rt, cargo and rustc. What it writes goes to target/example. It proves what the library is made of and no more:
+# term 3 and the programs are proved by .ci/run. With TINLADLE_LIB_DIR set nothing is proved: the library there is taken as it is.
 set -eu
 root=$(cd "$(dirname "$0")/.." && pwd)
 cd "$root"
@@ -8,7 +9,11 @@ command -v cargo >/dev/null || {
     echo "examples/run.sh: cargo is missing: put cargo and rustc on the PATH" >&2
     exit 2
 }
-echo "building; the first time the library is proved too, which takes some minutes" >&2
+if [ -n "${TINLADLE_LIB_DIR:-}" ]; then
+    echo "building the tool over the library in $TINLADLE_LIB_DIR; nothing is proved" >&2
+else
+    echo "proving the library, unless that is done, and building the tool; the first time takes some minutes" >&2
+fi
 cargo build --quiet --release --offline --locked --manifest-path rust/Cargo.toml
 tinladle() {
     cargo run --quiet --release --offline --locked --manifest-path rust/Cargo.toml --bin tinladle -- "$@"

@@ -1,4 +1,4 @@
-//! The one call into the proved library, and the only unsafe code of the crate.
+//! The one call into the proved library. The crate's unsafe code is this call and the declaration in library.rs of what it calls.
 
 #![allow(unsafe_code)]
 

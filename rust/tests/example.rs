@@ -1,4 +1,4 @@
-//! The shipped example is what its generator makes, and shows what examples/README.md says.
+//! The shipped example is what its generator makes, and shows what examples/README.md and README.md at the root say.
 
 #[allow(dead_code)]
 #[path = "../examples/make_example/main.rs"]
@@ -10,6 +10,7 @@ use std::fs;
 use std::path::Path;
 
 use common::run;
+use common::tool::{folder, tinladle};
 use tinladle::PictureBuf;
 use tinladle::container::StoredPicture;
 use tinladle::cut::{apart, differing, tiles};
@@ -56,4 +57,62 @@ fn suppressed_cells_keep_their_samples() {
         pcm += usize::from(flags & 8 != 0);
     }
     assert_eq!((lossless, pcm), (32 * 32, 32 * 32));
+}
+
+const README: &str = include_str!("../../README.md");
+
+/// What examples/run.sh prints, by the commands that stand in it, in a folder with the same paths.
+fn printed() -> String {
+    let at = folder("example");
+    fs::create_dir_all(at.join("examples")).unwrap();
+    fs::create_dir_all(at.join("target/example")).unwrap();
+    let pic = "examples/example.pic";
+    fs::copy(Path::new(env!("CARGO_MANIFEST_DIR")).join("..").join(pic), at.join(pic)).unwrap();
+    let script = include_str!("../../examples/run.sh");
+    let commands: Vec<Vec<&str>> =
+        script.lines().filter_map(|line| line.strip_prefix("tinladle ")).map(|w| w.split(' ').collect()).collect();
+    let names: Vec<&str> = commands.iter().map(|words| words[0]).collect();
+    assert_eq!(names, ["deblock", "tiles", "picture"]);
+    let run = |words: &Vec<&str>| {
+        let ran = tinladle(&at, words);
+        assert_eq!((ran.status, ran.err.as_str()), (0, ""), "{words:?}");
+        ran.out
+    };
+    commands.iter().map(run).collect()
+}
+
+#[test]
+fn the_root_readme_shows_what_the_script_prints() {
+    let printed: Vec<String> = printed().lines().map(|line| format!("    {line}")).collect();
+    let shown: Vec<&str> = README.lines().skip_while(|&line| line != printed[0]).take(printed.len()).collect();
+    assert_eq!(shown, printed);
+}
+
+/// The numbers that end the README's line of this name.
+fn shown(name: &str) -> [usize; 3] {
+    let line = README.lines().find_map(|line| line.trim_start().strip_prefix(name)).unwrap();
+    let numbers: Vec<usize> = line.split_whitespace().map(|word| word.parse().unwrap()).collect();
+    numbers.try_into().unwrap()
+}
+
+#[test]
+fn the_counts_in_the_root_readme_are_those_of_the_planes() {
+    let picture = shipped();
+    let finished = run(&picture).unwrap();
+    // 192 by 128 in four tiles of 96 by 64, and half of that in the chroma planes: examples/README.md.
+    let mut moved = [[[0; 3]; 2]; 2];
+    for (plane, (width, height)) in [(192, 128), (96, 64), (96, 64)].into_iter().enumerate() {
+        let (before, after) = (picture.planes.samples()[plane], finished.samples()[plane]);
+        assert_eq!((before.len(), after.len()), (width * height, width * height));
+        for i in (0..width * height).filter(|&i| before[i] != after[i]) {
+            moved[i / width / (height / 2)][i % width / (width / 2)][plane] += 1;
+        }
+    }
+    for (row, tiles) in moved.iter().enumerate() {
+        for (column, counts) in tiles.iter().enumerate() {
+            assert_eq!(shown(&format!("tile column {column}, row {row}")), *counts);
+        }
+    }
+    let whole = [0, 1, 2].map(|plane| moved.iter().flatten().map(|counts| counts[plane]).sum());
+    assert_eq!(shown("whole picture"), whole);
 }

@@ -1,12 +1,14 @@
 //! What the caller asks for.
 
-use std::ffi::OsString;
+use std::ffi::{OsStr, OsString};
+use std::os::unix::ffi::OsStrExt;
 use std::path::PathBuf;
 
 /// A command with its files.
 #[derive(Debug, PartialEq, Eq)]
 pub enum Command {
     Help,
+    Version,
     /// Each input with its output.
     Deblock {
         pairs: Vec<(PathBuf, PathBuf)>,
@@ -51,17 +53,43 @@ fn jobs(word: Option<OsString>) -> Result<usize, String> {
     }
 }
 
+fn folder(word: Option<OsString>) -> Result<PathBuf, String> {
+    match word {
+        Some(word) if !word.is_empty() => Ok(word.into()),
+        _ => Err("--to needs a folder".into()),
+    }
+}
+
+/// An option's name and what stands behind its `=`, which need not be UTF-8.
+fn split(word: &OsStr) -> (&OsStr, Option<&OsStr>) {
+    let bytes = word.as_bytes();
+    match bytes.iter().position(|&byte| byte == b'=') {
+        Some(at) => (OsStr::from_bytes(&bytes[..at]), Some(OsStr::from_bytes(&bytes[at + 1..]))),
+        None => (word, None),
+    }
+}
+
+/// Of two values one would be lost without a word.
+fn once<T>(place: &mut Option<T>, value: T, name: &str) -> Result<(), String> {
+    if place.replace(value).is_some() { Err(format!("{name} is given twice")) } else { Ok(()) }
+}
+
 fn sorted(words: impl Iterator<Item = OsString>) -> Result<Words, String> {
     let mut found = Words::default();
     let mut words = words;
     while let Some(word) = words.next() {
-        match word.to_str() {
-            Some("--help" | "-h") => found.help = true,
-            Some("--jobs") => found.jobs = Some(jobs(words.next())?),
-            Some("--to") => found.folder = Some(words.next().ok_or("--to needs a folder")?.into()),
-            Some("--") => found.files.extend(words.by_ref().map(PathBuf::from)),
-            Some(text) if text.starts_with('-') => return Err(format!("unknown option {text}")),
-            _ => found.files.push(word.into()),
+        if !word.as_bytes().starts_with(b"-") {
+            found.files.push(word.into());
+            continue;
+        }
+        let (name, behind) = split(&word);
+        let mut value = || behind.map(OsString::from).or_else(|| words.next());
+        match (name.to_str(), behind) {
+            (Some("--jobs"), _) => once(&mut found.jobs, jobs(value())?, "--jobs")?,
+            (Some("--to"), _) => once(&mut found.folder, folder(value())?, "--to")?,
+            (Some("--help" | "-h"), None) => found.help = true,
+            (Some("--"), None) => found.files.extend(words.by_ref().map(PathBuf::from)),
+            _ => return Err(format!("unknown option {}", word.display())),
         }
     }
     Ok(found)
@@ -98,6 +126,9 @@ pub fn parse(words: Vec<OsString>) -> Result<Command, String> {
     let name = first.to_str().unwrap_or_default();
     if matches!(name, "--help" | "-h" | "help") {
         return Ok(Command::Help);
+    }
+    if name == "--version" {
+        return Ok(Command::Version);
     }
     if !matches!(name, "deblock" | "check" | "diff" | "picture" | "tiles") {
         return Err(format!("unknown command {}", first.display()));

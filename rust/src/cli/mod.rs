@@ -7,11 +7,11 @@ mod progress;
 mod table;
 
 use std::ffi::OsString;
-use std::io::{self, Write};
+use std::io::{self, ErrorKind, Write};
 use std::path::Path;
 use std::process::ExitCode;
-use std::sync::Mutex;
 use std::sync::mpsc;
+use std::sync::{Mutex, Once};
 use std::thread;
 
 use args::Command;
@@ -19,14 +19,21 @@ use commands::Report;
 use progress::Progress;
 
 const HELP: &str = include_str!("help.txt");
+const VERSION: &str = concat!("tinladle ", env!("CARGO_PKG_VERSION"), "\n");
 const BAD: u8 = 2;
 
-/// Prints to standard output. Where nobody reads it any more there is nothing to say, and the status tells.
+/// Prints to standard output. A failure is told once; where nobody reads it any more there is nothing to say, and the status tells.
 fn print(text: &str) -> u8 {
+    static TOLD: Once = Once::new();
     let mut out = io::stdout().lock();
     match out.write_all(text.as_bytes()).and_then(|()| out.flush()) {
         Ok(()) => 0,
-        Err(_) => BAD,
+        Err(error) => {
+            if error.kind() != ErrorKind::BrokenPipe {
+                TOLD.call_once(|| complain(&format!("standard output: cannot be written: {error}")));
+            }
+            BAD
+        }
     }
 }
 
@@ -84,16 +91,18 @@ fn in_order(receive: mpsc::Receiver<(usize, Report)>) -> u8 {
     worst
 }
 
-/// The reason why nothing can be done, before anything is: an output that is also an input, or no folder to write to.
+/// The reason why nothing can be done: an output that is also an input, or no folder to write to. The folder is made last, so that a
+/// clash leaves nothing behind.
 fn obstacle(command: &Command) -> Option<String> {
     match command {
         Command::Deblock { pairs, folder, .. } => {
-            if let Some(Err(error)) = folder.as_ref().map(std::fs::create_dir_all) {
-                return Some(format!("{}: cannot be made: {error}", folder.as_ref()?.display()));
-            }
             let inputs: Vec<&Path> = pairs.iter().map(|pair| pair.0.as_path()).collect();
             let outputs: Vec<&Path> = pairs.iter().map(|pair| pair.1.as_path()).collect();
-            output::clash(&inputs, &outputs)
+            output::clash(&inputs, &outputs).or_else(|| {
+                let folder = folder.as_ref()?;
+                let error = std::fs::create_dir_all(folder).err()?;
+                Some(format!("{}: cannot be made: {error}", folder.display()))
+            })
         }
         Command::Picture { input, output } => output::clash(&[input], &[output]),
         _ => None,
@@ -103,6 +112,7 @@ fn obstacle(command: &Command) -> Option<String> {
 fn perform(command: &Command) -> u8 {
     match command {
         Command::Help => print(HELP),
+        Command::Version => print(VERSION),
         Command::Deblock { pairs, jobs, .. } => {
             side_by_side(pairs, *jobs, |(input, output), p| commands::deblock(input, output, p))
         }

@@ -77,30 +77,42 @@ impl Progress {
 #[cfg(test)]
 mod tests {
     use super::*;
+    use std::sync::mpsc;
     use std::thread;
 
-    fn lines(silent: Duration, worked: Duration) -> Vec<String> {
+    /// Far longer than any machine keeps a thread waiting.
+    const PATIENCE: Duration = Duration::from_secs(60);
+
+    /// Work that is over once this many lines are told, or none comes within `wait`; those lines.
+    fn told(silent: Duration, wanted: usize, wait: Duration) -> Vec<String> {
         let progress = Progress::new(3);
-        let mut lines = Vec::new();
+        progress.one_done();
+        progress.doing("filtering a.pic".into());
+        let (send, receive) = mpsc::channel();
         thread::scope(|scope| {
-            scope.spawn(|| progress.tell_after(silent, Duration::from_millis(20), |line| lines.push(line)));
-            progress.one_done();
-            progress.doing("filtering a.pic".into());
-            thread::sleep(worked);
+            scope.spawn(|| progress.tell_after(silent, Duration::from_millis(1), |line| send.send(line).unwrap()));
+            let lines: Vec<String> = (0..wanted).map_while(|_| receive.recv_timeout(wait).ok()).collect();
             progress.end();
-        });
-        lines
+            lines
+        })
     }
 
     #[test]
     fn short_work_is_silent() {
-        assert_eq!(lines(Duration::from_secs(60), Duration::from_millis(50)), Vec::<String>::new());
+        assert_eq!(told(Duration::from_secs(3600), 1, Duration::from_millis(50)), Vec::<String>::new());
     }
 
     #[test]
     fn long_work_tells_how_far_it_is() {
-        let told = lines(Duration::from_millis(100), Duration::from_millis(400));
-        assert_eq!(told[0], "tinladle: 0 s: 1 of 3 done; filtering a.pic");
-        assert!(told.len() > 1);
+        let (began, silent) = (Instant::now(), Duration::from_millis(20));
+        let lines = told(silent, 3, PATIENCE);
+        assert!(began.elapsed() >= silent);
+        assert_eq!(lines.len(), 3, "one line after the other");
+        for line in lines {
+            // How many seconds is the machine's affair.
+            let (seconds, rest) = line.strip_prefix("tinladle: ").unwrap().split_once(" s: ").unwrap();
+            assert!(seconds.parse::<u64>().is_ok(), "{line}");
+            assert_eq!(rest, "1 of 3 done; filtering a.pic");
+        }
     }
 }

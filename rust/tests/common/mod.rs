@@ -2,6 +2,9 @@
 
 #![allow(dead_code)]
 
+pub mod stored;
+pub mod tool;
+
 use tinladle::{
     Bs, Cell, Cells, ChromaFormat, PictureBuf, Plane, PlanesBuf, Refusal, Settings, Slice, Slices, deblock,
 };

@@ -1,0 +1,43 @@
+//! The records that crates/ stores for its programs, and the checksums of their lines: oracle/README.md, 'Records and lines'.
+
+use std::fs;
+use std::path::{Path, PathBuf};
+
+use tinladle::container::{BadFile, StoredPicture};
+
+fn of(name: &str, file: &str) -> PathBuf {
+    Path::new(env!("CARGO_MANIFEST_DIR")).join("../crates").join(name).join(file)
+}
+
+/// The pictures that the program of this name reads, and whether a short record follows them.
+pub fn records(name: &str) -> (Vec<StoredPicture>, bool) {
+    let bytes = fs::read(of(name, "stdin")).unwrap();
+    let mut rest = &bytes[..];
+    let mut pictures = Vec::new();
+    while !rest.is_empty() {
+        match StoredPicture::split_first(rest) {
+            Ok((picture, after)) => {
+                pictures.push(picture);
+                rest = after;
+            }
+            Err(BadFile::TooShort { .. } | BadFile::NoHead { .. }) => return (pictures, true),
+            Err(error) => panic!("record {}: {error}", pictures.len() + 1),
+        }
+    }
+    (pictures, false)
+}
+
+/// What the program is to print.
+pub fn expected(name: &str) -> String {
+    fs::read_to_string(of(name, "stdout")).unwrap()
+}
+
+/// FNV-1a of 64 bits, a sample for a byte.
+pub fn checksum(plane: &[u16]) -> u64 {
+    plane.iter().fold(0xCBF2_9CE4_8422_2325, |sum, &sample| (sum ^ u64::from(sample)).wrapping_mul(0x100_0000_01B3))
+}
+
+/// Those of the three planes, as a line has them.
+pub fn checksums(planes: [&[u16]; 3]) -> String {
+    planes.map(|plane| format!("{:016x}", checksum(plane))).join(" ")
+}
