@@ -7,6 +7,7 @@ use native.Mathlib.Nat.{le-trans}
 use native.Mathlib.Omega.{arith}
 use borrow.Author.Count.{below-more}
 use borrow.Author.Tests.{le-ltb}
+use lib.Bits.{bitOr, and-le-l, and-le-r, or-add-and}
 use lib.Dec.{ltb}
 use lib.ListN.{length, getD}
 use Rattle.ints.proofs.Laws.{either}
@@ -15,6 +16,13 @@ use Rattle.checks.proofs.Places.{Passed}
 
 abbrev pub above : List ℕ → ℕ → Cause
 above plane largest = record { count = length plane; bad = λ k. ltb largest (getD plane k 0) }
+
+-- the bits of two numbers are not below either
+pub bits-left : (a b : ℕ) → a ≤ bitOr a b
+bits-left a b = omega (arith, or-add-and a b, and-le-r a b)
+
+pub bits-right : (a b : ℕ) → b ≤ bitOr a b
+bits-right a b = omega (arith, or-add-and a b, and-le-l a b)
 
 -- the n samples from `from` on are at most m
 abbrev pub Within : List ℕ → ℕ → ℕ → ℕ → Type 0

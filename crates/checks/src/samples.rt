@@ -17,21 +17,18 @@ pub fn largest_at(depth: u32) -> u16
     ((1u32 << depth) - 1) as u16
 }
 
-// The largest of the 32 samples from `from` on: none of them is above it.
-fn block_most(plane: &[u16], from: usize) -> u16
-    requires { ⌜ from + 32 ≤ length (now plane) ⌝ }
-    ensures { λ r. ⌜ ((k : ℕ) → k < 32 → getD (now (plane .entry)) (from + k) 0 ≤ r) ⌝ }
+// The bits of the 256 samples from `from` on: none of the samples is above them.
+fn block_bits(plane: &[u16], from: usize) -> u16
+    requires { ⌜ from + 256 ≤ length (now plane) ⌝ }
+    ensures { λ r. ⌜ ((k : ℕ) → k < 256 → getD (now (plane .entry)) (from + k) 0 ≤ r) ⌝ }
 {
-    let mut most = 0;
+    let mut bits = 0;
     let mut k = 0;
-    while k < 32 {
-        let sample = plane[from + k];
-        if most < sample {
-            most = sample;
-        }
+    while k < 256 {
+        bits |= plane[from + k];
         k += 1;
     }
-    most
+    bits
 }
 
 // The same as first_bad_sample, where no sample before `from` is above the largest.
@@ -49,16 +46,17 @@ fn first_bad_from(plane: &[u16], largest: u16, from: usize) -> usize
     k
 }
 
-// The first sample of a plane above the largest, or their number where none is. Blocks of 32 samples are passed over by one test each.
+// The first sample of a plane above the largest, or their number where none is. Blocks of 256 samples are passed over by one test
+// each: `largest` is all the bits of a depth, so the bits of a block are above it only where a sample is.
 pub fn first_bad_sample(plane: &[u16], largest: u16) -> usize
     ensures { λ r. ⌜ r ≡ firstBad (λ k. ltb largest (getD (now (plane .entry)) k 0)) 0 (length (now (plane .entry))) ⌝ }
 {
     let mut from = 0;
-    while 32 <= plane.len() - from {
-        if largest < block_most(plane, from) {
+    while 256 <= plane.len() - from {
+        if largest < block_bits(plane, from) {
             return first_bad_from(plane, largest, from);
         }
-        from += 32;
+        from += 256;
     }
     first_bad_from(plane, largest, from)
 }

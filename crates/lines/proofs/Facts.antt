@@ -1,5 +1,5 @@
 -- What the code computes in naturals is what the definitions say over the integers.
-use Prim.Native.Nat.{ℕ, _+_, _*_, _-_, _/_, _≤_, _<_}
+use Prim.Native.Nat.{ℕ, _+_, _*_, _-_, _/_, _≤_, _<_, min, max}
 use mathlib.Core.Path.{_≡_, refl, sym, _∙_, ap, ap₂}
 use mathlib.Core.Bool.{Bool, true, false, cond, not, _&&_}
 use native.Mathlib.Omega.{arith}
@@ -82,6 +82,18 @@ below d h = omega arith
 
 narrow : {p q : ℕ} → p < 65536 → q < 65536 → 4 * p + q ≤ 524288
 narrow h k = omega arith
+
+-- 2 tc held to 16 bits: below x it leaves nothing either way, and above x it is past every v
+near-low : (t x d : ℕ) → x < 65536 → d ≡ min 65535 (t + t) → x - d ≡ x - 2 * t
+near-low t x d h e = omega arith
+
+near-high : (t x v d : ℕ) → v < 65536 → d ≡ min 65535 (t + t) → min (min 65535 (x + d)) v ≡ min (x + 2 * t) v
+near-high t x v d h e = omega arith
+
+pub near-made : (t x v d low high m r : ℕ) → x < 65536 → v < 65536 → d ≡ min 65535 (t + t) → low ≡ x - d → high ≡ min 65535 (x + d)
+    → m ≡ min high v → r ≡ max low m → r ≡ nearN t x v
+near-made t x v d low high m r hx hv ed el eh em er =
+    er ∙ ap₂ max (el ∙ near-low t x d hx ed) (em ∙ ap (λ (n : ℕ). min n v) eh ∙ near-high t x v d hv ed)
 
 -- ---- line by line: what the code's parts are, put together
 

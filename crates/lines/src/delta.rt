@@ -1,4 +1,6 @@
 // A signed step, held 65536 more, and a sample moved by it.
+use crate::limits::at_least;
+use crate::limits::at_most;
 ghost use mathlib.Core.Path.{_≡_};
 ghost use Prim.Native.Nat.{_≤_};
 ghost use Rattle.lines.specs.Code.{clipDeltaN, movedN};
@@ -9,13 +11,7 @@ pub(crate) fn clip_delta(t: u16, d: u32) -> u32
     ensures { λ r. ⌜ r ≡ clipDeltaN t d ⌝ }
 {
     let w = t as u32;
-    if d + w < 65536 {
-        65536 - w
-    } else if 65536 + w < d {
-        65536 + w
-    } else {
-        d
-    }
+    at_least(65536 - w, at_most(65536 + w, d))
 }
 
 // x + d, clipped to the samples
@@ -23,12 +19,6 @@ pub(crate) fn moved(most: u16, x: u16, d: u32) -> u16
     requires { ⌜ d ≤ 131072 ⌝ }
     ensures { λ r. ⌜ r ≡ movedN most x d ⌝ }
 {
-    let s = (x as u32) + d;
-    if s < 65536 {
-        0
-    } else if s - 65536 < most as u32 {
-        (s - 65536) as u16
-    } else {
-        most
-    }
+    let s = at_most(65536 + (most as u32), (x as u32) + d);
+    if s < 65536 { 0 } else { (s - 65536) as u16 }
 }

@@ -5,6 +5,7 @@
 mod chroma;
 mod decision;
 mod delta;
+mod limits;
 mod strong;
 mod weak;
 
@@ -13,8 +14,8 @@ pub use decision::luma_decision;
 ghost use mathlib.Core.Path.{_≡_};
 ghost use Rattle.lines.specs.Answer.{valuesOf};
 ghost use Rattle.lines.specs.Luma.{lumaLine};
-use strong::strong_line;
-use weak::weak_line;
+pub use strong::strong_line;
+pub use weak::weak_line;
 
 // The eight samples across a luma edge: p3 is furthest from the edge on the P side, q3 on the Q side.
 pub struct Line {

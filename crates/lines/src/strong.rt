@@ -1,24 +1,21 @@
 // 8.7.2.5.7 with dE 2: the strong filter of a luma line.
 use crate::Line;
+use crate::limits::lowered;
+use crate::limits::not_above;
+use crate::limits::not_below;
+use crate::limits::raised;
 ghost use mathlib.Core.Path.{_≡_};
 ghost use Prim.Native.Nat.{_+_, _*_, _/_, _<_};
 ghost use Rattle.lines.specs.Code.{nearN};
 ghost use Rattle.lines.specs.Luma.{strongLine};
 
-// Clip3(x - 2 tc, x + 2 tc, v)
+// Clip3(x - 2 tc, x + 2 tc, v), of 16 bits: what 2 tc is past them makes no difference.
 fn clip_near(tc: u16, x: u16, v: u32) -> u16
     requires { ⌜ v < 65536 ⌝ }
     ensures { λ r. ⌜ r ≡ nearN tc x v ⌝ }
 {
-    let d = 2 * (tc as u32);
-    let w = x as u32;
-    if v + d < w {
-        (w - d) as u16
-    } else if w + d < v {
-        (w + d) as u16
-    } else {
-        v as u16
-    }
+    let d = raised(tc, tc);
+    not_below(lowered(x, d), not_above(raised(x, d), v as u16))
 }
 
 // The first, second and third sample of a side: a mean of the samples around it, held near the sample x that it replaces.
@@ -52,7 +49,7 @@ fn strong2(tc: u16, x: u16, a: u16, b: u16, c: u16, d: u16, e: u16) -> u16
     )
 }
 
-pub(crate) fn strong_line(tc: u16, l: Line) -> Line
+pub fn strong_line(tc: u16, l: Line) -> Line
     ensures { λ r. ⌜ r ≡ strongLine tc l ⌝ }
 {
     Line {

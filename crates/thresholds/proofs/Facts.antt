@@ -1,16 +1,16 @@
 -- The definitions at biased naturals, in naturals; and the tables' largest entries.
-use Prim.Native.Nat.{ℕ, zero, suc, _+_, _*_, _-_, _/_, _^_, _≤_, _<_, min, max}
+use Prim.Native.Nat.{ℕ, zero, suc, _+_, _*_, _-_, _/_, _%_, _^_, _≤_, _<_, min, max}
 use mathlib.Core.Path.{_≡_, refl, sym, _∙_, ap}
 use mathlib.Core.Bool.{Bool, true, false, cond}
 use mathlib.Core.List.{List, [], _∷_}
 use mathlib.Core.Logic.{_⊎_, inl, inr}
 use native.Mathlib.Omega.{arith}
-use native.Mathlib.Nat.{mul-le-mul}
-use lib.Dec.{leb, ltb}
-use lib.ListN.{getD}
+use native.Mathlib.Nat.{zero-add, mul-le-mul}
+use lib.Dec.{eqb, leb, ltb}
+use lib.ListN.{length, getD}
 use lib.Pow.{pow-mono}
 use lib.IntN.{ℤ, pos}
-use borrow.Author.Tests.{leb-true, lt-ltb, le-ltb, eq-eqb, ne-eqb}
+use borrow.Author.Tests.{eqb-true, leb-true, lt-ltb, le-ltb, eq-eqb, ne-eqb}
 use Rattle.ints.specs.Int.{_⊖_, _⊞_, _⊟_, lt, clip3, natOf}
 use Rattle.ints.proofs.Laws.{diffs, diff-eq, shr-diff, pos-diff, nat-diff, plus-diff, lt-pos, pos-lt, either, clip-diff, clip-index-is}
 use Rattle.thresholds.specs.Tables.{BETA, TC, QPC}
@@ -31,6 +31,69 @@ pub within : (m : ℕ) (l : List ℕ) → allWithin m l ≡ true → (k : ℕ) �
 within m [] e k = omega arith
 within m (x ∷ r) e zero = leb-true x m (split (leb x m) (allWithin m r) e .0)
 within m (x ∷ r) e (suc k) = within m r (split (leb x m) (allWithin m r) e .1) k
+
+-- ---- the tables: each row is what a formula gives
+
+abbrev allAgree : (ℕ → ℕ) → ℕ → List ℕ → Bool
+allAgree f n [] = true
+allAgree f n (x ∷ r) = cond (eqb x (f n)) (allAgree f (n + 1) r) false
+
+agree : (f : ℕ → ℕ) (n : ℕ) (l : List ℕ) → allAgree f n l ≡ true → (k : ℕ) → k < length l → getD l k 0 ≡ f (n + k)
+agree f n [] e k h = absurd (omega arith)
+agree f n (x ∷ r) e zero h = eqb-true x (f n) (split (eqb x (f n)) (allAgree f (n + 1) r) e .0) ∙ ap f (omega arith)
+agree f n (x ∷ r) e (suc k) h = agree f (n + 1) r (split (eqb x (f n)) (allAgree f (n + 1) r) e .1) k (omega arith) ∙ ap f (omega arith)
+
+abbrev betaAt : ℕ → ℕ
+betaAt q = cond (ltb q 16) 0 (cond (ltb q 29) (q - 10) (2 * q - 38))
+
+abbrev tcAt : ℕ → ℕ
+tcAt q =
+    cond (ltb q 18) 0
+    (cond (ltb q 30) (74380897575535649 / 2 ^ (5 * (q - 18)) % 32)
+    (cond (ltb q 42) (223109742844808290 / 2 ^ (5 * (q - 30)) % 32)
+    (890184970293028103 / 2 ^ (5 * (q - 42)) % 32)))
+
+abbrev qpcAt : ℕ → ℕ
+qpcAt q = cond (ltb q 4) (29 + q) (31 + q / 2)
+
+beta-row-is : (q : ℕ) → q < 52 → getD BETA q 0 ≡ betaAt q
+unfolding BETA
+beta-row-is q h = agree betaAt 0 BETA refl q h ∙ ap betaAt (zero-add q)
+
+tc-row-is : (q : ℕ) → q < 54 → getD TC q 0 ≡ tcAt q
+unfolding TC
+tc-row-is q h = agree tcAt 0 TC refl q h ∙ ap tcAt (zero-add q)
+
+qpc-row-is : (q : ℕ) → q < 14 → getD QPC q 0 ≡ qpcAt q
+unfolding QPC
+qpc-row-is q h = agree qpcAt 0 QPC refl q h ∙ ap qpcAt (zero-add q)
+
+pub beta-low : (q : ℕ) → q < 16 → 0 ≡ getD BETA q 0
+beta-low q h = sym (beta-row-is q (omega arith) ∙ simp (lt-ltb q 16 h))
+
+pub beta-mid : (q : ℕ) → 16 ≤ q → q < 29 → q - 10 ≡ getD BETA q 0
+beta-mid q l h = sym (beta-row-is q (omega arith) ∙ simp (le-ltb q 16 l, lt-ltb q 29 h))
+
+pub beta-high : (q : ℕ) → 29 ≤ q → q < 52 → 2 * q - 38 ≡ getD BETA q 0
+beta-high q l h = sym (beta-row-is q h ∙ simp (le-ltb q 16 (omega arith), le-ltb q 29 l))
+
+pub tc-low : (q : ℕ) → q < 18 → 0 ≡ getD TC q 0
+tc-low q h = sym (tc-row-is q (omega arith) ∙ simp (lt-ltb q 18 h))
+
+pub tc-first : (q r : ℕ) → 18 ≤ q → q < 30 → r ≡ 74380897575535649 / 2 ^ (5 * (q - 18)) % 32 → r ≡ getD TC q 0
+tc-first q r l h e = e ∙ sym (tc-row-is q (omega arith) ∙ simp (le-ltb q 18 l, lt-ltb q 30 h))
+
+pub tc-second : (q r : ℕ) → 30 ≤ q → q < 42 → r ≡ 223109742844808290 / 2 ^ (5 * (q - 30)) % 32 → r ≡ getD TC q 0
+tc-second q r l h e = e ∙ sym (tc-row-is q (omega arith) ∙ simp (le-ltb q 18 (omega arith), le-ltb q 30 l, lt-ltb q 42 h))
+
+pub tc-third : (q r : ℕ) → 42 ≤ q → q < 54 → r ≡ 890184970293028103 / 2 ^ (5 * (q - 42)) % 32 → r ≡ getD TC q 0
+tc-third q r l h e = e ∙ sym (tc-row-is q h ∙ simp (le-ltb q 18 (omega arith), le-ltb q 30 (omega arith), le-ltb q 42 l))
+
+pub qpc-low : (q : ℕ) → q < 4 → 29 + q ≡ getD QPC q 0
+qpc-low q h = sym (qpc-row-is q (omega arith) ∙ simp (lt-ltb q 4 h))
+
+pub qpc-high : (q : ℕ) → 4 ≤ q → q < 14 → 31 + q / 2 ≡ getD QPC q 0
+qpc-high q l h = sym (qpc-row-is q h ∙ simp (le-ltb q 4 l))
 
 -- ---- indices
 

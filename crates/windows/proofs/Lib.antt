@@ -1,2 +1,4 @@
+pub mod Beside
 pub mod Lines
 pub mod Pairs
+pub mod Turn

@@ -1,6 +1,6 @@
 -- A line of eight samples in a list: written sample by sample, and read as a line of a window.
 use Prim.Native.Nat.{ℕ, _+_, _*_, _<_}
-use mathlib.Core.Path.{_≡_, refl, sym, ap, ap₂, _∙_}
+use mathlib.Core.Path.{_≡_, refl, sym, subst, ap, ap₂, _∙_}
 use mathlib.Core.List.{List}
 use native.Mathlib.Omega.{arith}
 use lib.ListN.{length, getD, set}
@@ -63,6 +63,16 @@ line-decided d max tc W j m l read made i h = ap (λ (r : Line). getD (samplesOf
 skipped : (max tc : ℕ) (W : Plane) (j i : ℕ) → i < 8 → decided (valuesOf Skip) max tc W i j ≡ W i j
 unfolding decided lumaLine
 skipped max tc W j = cases8 (λ (i : ℕ). getD (samplesOf (lineOf W j)) i 0 ≡ W i j) refl refl refl refl refl refl refl refl
+
+-- a stride that is known by another name
+pub filtered-by : (f : Plane → Plane) (base across along : ℕ) {other : ℕ} (xs ys : List ℕ) → across ≡ other
+    → Filtered 4 f base other along xs ys → Filtered 4 f base across along xs ys
+filtered-by f base across along xs ys e = subst (λ (n : ℕ). Filtered 4 f base n along xs ys) (sym e)
+
+-- a window that is left alone
+pub none-decided : (max tc base across along : ℕ) (xs : List ℕ) → Filtered 4 (decided (valuesOf Skip) max tc) base across along xs xs
+none-decided max tc base across along xs =
+    filtered-same _ base across along xs (λ i j hi hj. skipped max tc (windowAt xs base across along) j i hi)
 
 module _ (β tc max base across along : ℕ) (xs : List ℕ) (l0 l3 : Line) (d : LumaDecision)
     (read0 : l0 ≡ lineAt xs base across) (read3 : l3 ≡ lineAt xs (base + 3 * along) across) (made : d ≡ caseOf (decision β tc l0 l3)) where

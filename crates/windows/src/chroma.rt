@@ -1,4 +1,5 @@
 // The chroma filter on a window. Of each line the two samples next to the edge are written.
+use crate::rows::put_row;
 use lines::ChromaLine;
 ghost use mathlib.Core.Path.{_≡_};
 ghost use mathlib.Core.List.{[], _∷_};
@@ -28,7 +29,23 @@ fn put_pair(s: &mut [u16], at: usize, step: usize, p0: u16, q0: u16)
     s[at + step] = q0;
 }
 
-pub fn chroma_window(s: &mut [u16], base: usize, across: usize, along: usize, tc: u16, most: u16)
+// Lines side by side: all four are read before any is written, so that the compiler can filter the four as one.
+fn chroma_beside(s: &mut [u16], base: usize, across: usize, tc: u16, most: u16)
+    requires { ⌜ base + 3 + 7 * across < length (now s) ⌝ }
+    requires { ⌜ Apart across 1 ⌝ }
+    ensures { λ _. ⌜ Filtered 4 (kernel (chroma tc most)) base across 1 (now (s .entry)) (now (s .exit)) ⌝ }
+{
+    let at = base + 2 * across;
+    let a = lines::chroma_line(most, tc, take_chroma(&s[..], at, across));
+    let b = lines::chroma_line(most, tc, take_chroma(&s[..], at + 1, across));
+    let c = lines::chroma_line(most, tc, take_chroma(&s[..], at + 2, across));
+    let d = lines::chroma_line(most, tc, take_chroma(&s[..], at + 3, across));
+    put_row(&mut s[..], at + across, a.p0, b.p0, c.p0, d.p0);
+    put_row(&mut s[..], at + 2 * across, a.q0, b.q0, c.q0, d.q0);
+}
+
+// Other lines one after the other.
+fn chroma_lines(s: &mut [u16], base: usize, across: usize, along: usize, tc: u16, most: u16)
     requires { ⌜ base + 3 * along + 7 * across < length (now s) ⌝ }
     requires { ⌜ Apart across along ⌝ }
     ensures { λ _. ⌜ Filtered 4 (kernel (chroma tc most)) base across along (now (s .entry)) (now (s .exit)) ⌝ }
@@ -38,4 +55,16 @@ pub fn chroma_window(s: &mut [u16], base: usize, across: usize, along: usize, tc
         let l = lines::chroma_line(most, tc, take_chroma(&s[..], at, across));
         put_pair(&mut s[..], at + across, across, l.p0, l.q0);
     }
+}
+
+pub fn chroma_window(s: &mut [u16], base: usize, across: usize, along: usize, tc: u16, most: u16)
+    requires { ⌜ base + 3 * along + 7 * across < length (now s) ⌝ }
+    requires { ⌜ Apart across along ⌝ }
+    ensures { λ _. ⌜ Filtered 4 (kernel (chroma tc most)) base across along (now (s .entry)) (now (s .exit)) ⌝ }
+{
+    if along == 1 {
+        chroma_beside(s, base, across, tc, most);
+        return;
+    }
+    chroma_lines(s, base, across, along, tc, most);
 }

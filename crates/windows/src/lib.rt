@@ -3,6 +3,8 @@
 mod chroma;
 mod line;
 mod luma;
+mod rows;
+mod turned;
 
 pub use chroma::chroma_window;
 pub use luma::luma_window;

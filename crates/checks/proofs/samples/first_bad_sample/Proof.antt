@@ -19,8 +19,8 @@ loop-holds c = (omega arith, λ k h. absurd (omega arith))
 sub-loop : tie.Need-sub-loop Inv-loop μ-loop
 sub-loop c = omega arith
 
-block-most-requires : tie.Need-block-most-requires Inv-loop μ-loop
-block-most-requires c κs = omega arith
+block-bits-requires : tie.Need-block-bits-requires Inv-loop μ-loop
+block-bits-requires c κs = omega arith
 
 first-bad-from-requires : tie.Need-first-bad-from-requires Inv-loop μ-loop
 first-bad-from-requires c κs = c .before .before .before .loop .inv
@@ -38,7 +38,7 @@ loop-again : tie.Need-loop-again Inv-loop μ-loop
 loop-again c =
     let i = c .before .before .before .loop in
     let l = c .before .before .before .before .before .args .plane .now in
-    (omega arith, block-more l (i .from) (i .inv .1) (c .before .block-most .ensures) (c .if1 .left))
+    (omega arith, block-more l (i .from) (i .inv .1) (c .before .block-bits .ensures) (c .if1 .left))
 
 first-bad-from-requires-2 : tie.Need-first-bad-from-requires-2 Inv-loop μ-loop
 first-bad-from-requires-2 c κs = c .before .loop .inv
@@ -54,7 +54,7 @@ first-bad-sample-spec =
     μ-loop
     loop-holds
     sub-loop
-    block-most-requires
+    block-bits-requires
     first-bad-from-requires
     returns
     add-from

@@ -9,12 +9,6 @@ use Rattle.lines.proofs.weak.weak_line.Tie as tie
 weak-delta-requires : tie.Need-weak-delta-requires
 weak-delta-requires c κs = search needs
 
-abs-diff-requires : tie.Need-abs-diff-requires
-abs-diff-requires c κs = search needs
-
-mul-if1 : tie.Need-mul-if1
-mul-if1 c = search needs
-
 clip-delta-requires : tie.Need-clip-delta-requires
 clip-delta-requires c κs = search needs
 
@@ -33,6 +27,12 @@ moved-requires-2 c κs = search needs
 second-sample-requires-2 : tie.Need-second-sample-requires-2
 second-sample-requires-2 c κs = search needs
 
+abs-diff-requires : tie.Need-abs-diff-requires
+abs-diff-requires c κs = search needs
+
+mul-if1 : tie.Need-mul-if1
+mul-if1 c = search needs
+
 returns : tie.Need-returns
 returns c = search (weak-made, arith)
 
@@ -44,13 +44,13 @@ weak-line-spec =
     tie.close
     (tie.spec
     weak-delta-requires
-    abs-diff-requires
-    mul-if1
     clip-delta-requires
     sub-e
     second-sample-requires
     moved-requires
     moved-requires-2
     second-sample-requires-2
+    abs-diff-requires
+    mul-if1
     returns
     returns-2)

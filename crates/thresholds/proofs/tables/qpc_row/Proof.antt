@@ -1,21 +1,29 @@
--- `qpc_row` meets its contract: the code's table is the definition's, and no entry is above 37.
+-- `qpc_row` meets its contract: the two formulas give the table, and neither is above 37.
 -- Assumes nothing.
-use mathlib.Core.Path.{refl}
-use Rattle.thresholds.specs.Tables.{QPC}
-use Rattle.thresholds.proofs.Facts.{within}
+use native.Mathlib.Omega.{arith}
+use Rattle.thresholds.proofs.Facts.{qpc-low, qpc-high}
 use borrow.Author.Needs.{needs}
 use Rattle.thresholds.proofs.tables.qpc_row.Statement.{statement}
 use Rattle.thresholds.proofs.tables.qpc_row.Tie as tie
 
-mul-result : tie.Need-mul-result
-mul-result c = search needs
+add-result : tie.Need-add-result
+add-result c = search needs
 
-array-read-result : tie.Need-array-read-result
-array-read-result c = search needs
+cast-result : tie.Need-cast-result
+cast-result c = search needs
 
 returns : tie.Need-returns
-unfolding QPC
-returns c = (refl, within 37 QPC refl (c .args .q))
+returns c = (qpc-low _ (c .if1 .taken), omega arith)
+
+add-result-2 : tie.Need-add-result-2
+add-result-2 c = search needs
+
+cast-result-2 : tie.Need-cast-result-2
+cast-result-2 c = search needs
+
+returns-2 : tie.Need-returns-2
+returns-2 c = (qpc-high _ (c .if1 .left) (c .before .pre), omega arith)
 
 pub qpc-row-spec : {M : Type 1} → statement M
-qpc-row-spec = tie.close (tie.spec mul-result array-read-result returns)
+qpc-row-spec =
+    tie.close (tie.spec add-result cast-result returns add-result-2 cast-result-2 returns-2)
