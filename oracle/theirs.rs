@@ -65,7 +65,7 @@ fn kernels() -> exec::ExecContext {
 }
 
 /// The cells and slices as the customer lays them out: a list for each field.
-struct Lists {
+pub struct Lists {
     qp: Vec<i16>,
     lossless: Vec<bool>,
     pcm: Vec<bool>,
@@ -79,7 +79,7 @@ struct Lists {
 }
 
 impl Lists {
-    fn of(p: &Picture) -> Self {
+    pub fn of(p: &Picture) -> Self {
         let cells = || p.cells.chunks(CELL_BYTES);
         let flag = |bit: u8| cells().map(|c| c[1] & bit != 0).collect();
         let slices = || p.slices.chunks(SLICE_BYTES);
@@ -102,11 +102,16 @@ fn slice_settings(record: &[u8]) -> decode::SliceDeblock {
     decode::SliceDeblock { disabled: record[0] != 0, beta_offset_div2: i32::from(record[1]) - 6, tc_offset_div2: i32::from(record[2]) - 6 }
 }
 
-fn context<'a>(p: &Picture, l: &'a Lists, grid: Option<&'a tiles::TileGrid>) -> deblock::DeblockCtx<'a> {
+pub fn context<'a>(
+    p: &Picture,
+    l: &'a Lists,
+    grid: Option<&'a tiles::TileGrid>,
+    exec: exec::ExecContext,
+) -> deblock::DeblockCtx<'a> {
     let (sub_w, sub_h) = p.plane_scales(1);
     let (cw, ch) = p.plane_size(1);
     deblock::DeblockCtx {
-        exec: kernels(),
+        exec,
         w: p.width as usize,
         h: p.height as usize,
         cw,
@@ -166,7 +171,7 @@ impl Rust {
         let ctb = 1 << p.log2_ctb;
         let starts = config::Pps::from_starts(&p.columns, &p.rows);
         let tiles = tiles::TileGrid::from_pps(&starts, p.width.div_ceil(ctb) as usize, p.height.div_ceil(ctb) as usize);
-        let ctx = context(p, &lists, if grid == Grid::Given { tiles.as_ref() } else { None });
+        let ctx = context(p, &lists, if grid == Grid::Given { tiles.as_ref() } else { None }, kernels());
         let [y, cb, cr] = p.planes.clone();
         CALLS.set(Calls::default());
         INSIDE.set(true);

@@ -1,23 +1,30 @@
-//! The two pictures that are timed, made from a seed.
+//! The pictures that are timed, made from a seed.
 
-pub const WIDTH: usize = 2048;
-pub const HEIGHT: usize = 2048;
+use crate::picture::{CELL_BYTES, DEFAULT_SLICE, Picture};
+
 pub const LOG2_CTB: u32 = 6;
 
-pub struct Picture {
-    pub y: Vec<u16>,
-    pub cb: Vec<u16>,
-    pub cr: Vec<u16>,
-    /// Document 01's records of 8 bytes.
-    pub cells: Vec<u8>,
+pub struct Timed {
+    pub picture: Picture,
     /// How many of the luma segments have an edge and a bS above 0.
     pub open: f64,
+}
+
+impl Timed {
+    /// The samples of all planes.
+    pub fn samples(&self) -> usize {
+        self.picture.planes.iter().map(Vec::len).sum()
+    }
 }
 
 /// A xorshift generator: the same numbers everywhere.
 struct Random(u64);
 
 impl Random {
+    fn of(seed: u64) -> Self {
+        Random(seed.wrapping_mul(0x9E37_79B9_7F4A_7C15))
+    }
+
     fn below(&mut self, n: u64) -> u64 {
         self.0 ^= self.0 << 13;
         self.0 ^= self.0 >> 7;
@@ -27,28 +34,33 @@ impl Random {
 }
 
 /// A slow slope, a small step at every block of 8 by 8 and a little noise, so that strong, weak and no filtering all occur.
-fn plane(w: usize, h: usize, random: &mut Random) -> Vec<u16> {
-    let steps: Vec<u64> = (0..w / 8 * (h / 8)).map(|_| random.below(9)).collect();
-    (0..w * h)
+/// A greater depth has the same picture with finer noise.
+fn plane(side: usize, depth: u32, random: &mut Random) -> Vec<u16> {
+    let steps: Vec<u64> = (0..side / 8 * (side / 8)).map(|_| random.below(9)).collect();
+    let scale = 1 << (depth - 8);
+    (0..side * side)
         .map(|i| {
-            let (x, y) = (i % w, i / w);
-            (60 + (x / 24 + y / 40) as u64 % 100 + steps[y / 8 * (w / 8) + x / 8] + random.below(3)) as u16
+            let (x, y) = (i % side, i / side);
+            let base = 60 + (x / 24 + y / 40) as u64 % 100 + steps[y / 8 * (side / 8) + x / 8];
+            (base * scale + random.below(3 * scale)) as u16
         })
         .collect()
 }
 
 struct Cells {
+    /// Cells in a row.
+    row: usize,
     bytes: Vec<u8>,
 }
 
 impl Cells {
-    fn new() -> Self {
-        Cells { bytes: [37 + 64, 0, 0, 0, 0, 0, 0, 0].repeat(WIDTH / 4 * (HEIGHT / 4)) }
+    fn new(size: usize) -> Self {
+        Cells { row: size / 4, bytes: [37 + 64, 0, 0, 0, 0, 0, 0, 0].repeat(size / 4 * (size / 4)) }
     }
 
     fn at(&mut self, x: usize, y: usize) -> &mut [u8] {
-        let n = 8 * (y / 4 * (WIDTH / 4) + x / 4);
-        &mut self.bytes[n..n + 8]
+        let n = CELL_BYTES * (y / 4 * self.row + x / 4);
+        &mut self.bytes[n..n + CELL_BYTES]
     }
 
     /// A block of samples with one QP, and edges of one bS on its left and top sides.
@@ -87,8 +99,8 @@ impl Cells {
     /// The share of the luma segments, on edges at multiples of 8 and not at 0, that have an edge and a bS.
     fn open(&self) -> f64 {
         let (mut open, mut all) = (0, 0);
-        for (i, c) in self.bytes.chunks(8).enumerate() {
-            let (column, row) = (i % (WIDTH / 4), i / (WIDTH / 4));
+        for (i, c) in self.bytes.chunks(CELL_BYTES).enumerate() {
+            let (column, row) = (i % self.row, i / self.row);
             if column > 0 && column % 2 == 0 {
                 all += 1;
                 open += usize::from(c[1] & 1 != 0 && c[2] > 0);
@@ -102,35 +114,49 @@ impl Cells {
     }
 }
 
-fn picture(cells: Cells, random: &mut Random) -> Picture {
-    Picture {
-        y: plane(WIDTH, HEIGHT, random),
-        cb: plane(WIDTH / 2, HEIGHT / 2, random),
-        cr: plane(WIDTH / 2, HEIGHT / 2, random),
-        open: cells.open(),
+/// 4:2:0, one open slice, one tile.
+fn picture(size: usize, depth: u32, cells: Cells, random: &mut Random) -> Timed {
+    let planes = [size, size / 2, size / 2].map(|side| plane(side, depth, random));
+    let open = cells.open();
+    let picture = Picture {
+        width: size as u32,
+        height: size as u32,
+        format: 1,
+        luma_depth: depth,
+        chroma_depth: depth,
+        log2_ctb: LOG2_CTB,
+        cb_offset: 0,
+        cr_offset: 0,
+        pcm_switch: false,
+        out_lengths: [0, 1, 2].map(|k| planes[k].len()),
+        planes,
         cells: cells.bytes,
-    }
+        slices: DEFAULT_SLICE.to_vec(),
+        columns: vec![0],
+        rows: vec![0],
+    };
+    Timed { picture, open }
 }
 
 /// Every edge of the 8 by 8 grid, with bS 2.
-pub fn dense(seed: u64) -> Picture {
-    let mut cells = Cells::new();
-    for y in (0..HEIGHT).step_by(8) {
-        for x in (0..WIDTH).step_by(8) {
+pub fn dense(size: usize, depth: u32) -> Timed {
+    let mut cells = Cells::new(size);
+    for y in (0..size).step_by(8) {
+        for x in (0..size).step_by(8) {
             cells.block(x, y, 8, 37, 2);
         }
     }
-    picture(cells, &mut Random(seed.wrapping_mul(0x9E37_79B9_7F4A_7C15)))
+    picture(size, depth, cells, &mut Random::of(1))
 }
 
 /// The edges of a coding quadtree in each CTB.
-pub fn sparse(seed: u64) -> Picture {
-    let mut random = Random(seed.wrapping_mul(0x9E37_79B9_7F4A_7C15));
-    let mut cells = Cells::new();
-    for y in (0..HEIGHT).step_by(1 << LOG2_CTB) {
-        for x in (0..WIDTH).step_by(1 << LOG2_CTB) {
+pub fn sparse(size: usize, depth: u32) -> Timed {
+    let mut random = Random::of(2);
+    let mut cells = Cells::new(size);
+    for y in (0..size).step_by(1 << LOG2_CTB) {
+        for x in (0..size).step_by(1 << LOG2_CTB) {
             cells.quadtree(x, y, 1 << LOG2_CTB, &mut random);
         }
     }
-    picture(cells, &mut random)
+    picture(size, depth, cells, &mut random)
 }

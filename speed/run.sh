@@ -12,5 +12,7 @@ rt staticlib tinladle >target/speed/staticlib.out 2>&1 || {
     tail -n 20 target/speed/staticlib.out
     exit 1
 }
-rustc --edition 2024 -C opt-level=3 -L native=target/staticlib -l static=tinladle -o target/speed/speed speed/speed.rs
+# The feature "avx" makes the customer's `resolve_..` functions look for AVX2; the scalar path does not go through them.
+rustc --edition 2024 -C opt-level=3 --cfg 'feature="avx"' \
+    -L native=target/staticlib -l static=tinladle -o target/speed/speed speed/speed.rs
 target/speed/speed "${RUNS:-15}"
