@@ -5,6 +5,7 @@ use mathlib.Core.Bool.{Bool, true, false, cond}
 use mathlib.Core.List.{List, []}
 use native.Mathlib.Omega.{arith}
 use borrow.Author.Tests.{eq-eqb, ne-eqb, le-leb, lt-leb}
+use lib.Dec.{eqb}
 use lib.ListN.{length}
 use Rattle.checks.specs.declared.Verdict as Answer
 use Rattle.checks.specs.Numbered.{numbered}
@@ -22,9 +23,9 @@ use Rattle.picture.proofs.Causes.{eq-not, not-eq, none-in, none-out}
 use Rattle.tiles_apart.proofs.Parts.{Inside}
 use Rattle.tiles_apart.proofs.Term3.{term3}
 use Rattle.tiles_apart.proofs.Tile.{columns-span, rows-span, part-inside, cells-inside, cells-rows}
-use Rattle.tile_check.specs.Answer.{Outcome, refused, noTile, lengths, differing, Scratch, ScratchOk, Checkable, noTileAt, badScratch, compared, outcome}
+use Rattle.tile_check.specs.Answer.{Outcome, refused, noTile, lengths, differing, Scratch, ScratchOk, Checkable, scratch, noTileAt, badScratch, compared, written, outcome, after}
 use Rattle.tile_check.specs.Parts.{Room, OnPicture, bytesPart}
-use Rattle.tile_check.specs.Ready.{alone, Rooms, Sized, CutReady, partPlanes, partCells, oneTile, differingPlanes}
+use Rattle.tile_check.specs.Ready.{alone, Rooms, Sized, CutReady, partPlanes, partCells, oneTile, filteredPart, differingPlanes}
 
 scaled-most : (k : Sampling) (n : ℕ) → fromLuma k n ≤ n
 scaled-most whole n = omega arith
@@ -135,16 +136,16 @@ module _ (s : Code.Settings) (originals : Planes) (cells slices columns rows : L
           subst (λ (q : Part). CutReady s q originals cells (l .originals) (l .cells) × ((q .height ≤ 8192) × (Rooms s q lent × Sized s q (l .own)))) (sym e)
           (cut-ready l fit, (luma-small .2, (rooms lent (ok .outputs-long), sized (l .own) (fit .own))))
 
-  -- ---- the answers
+  -- ---- the answers, and what the lists hold after them
 
-  no-tile : (l : Scratch) (out : Planes) → anyOf (noTileAt p i j) ≡ true → noTile ≡ compared p i j l out
-  unfolding compared
-  no-tile l out e = rw e
+  no-tile : (l : Scratch) (out : Planes) → anyOf (noTileAt p i j) ≡ true → (noTile ≡ compared p i j l out) × (l ≡ written p i j l)
+  unfolding compared written
+  no-tile l out e = (rw e, rw e)
 
-  pub no-column : (l : Scratch) (out : Planes) → length columns ≤ i → noTile ≡ compared p i j l out
+  pub no-column : (l : Scratch) (out : Planes) → length columns ≤ i → (noTile ≡ compared p i j l out) × (l ≡ written p i j l)
   no-column l out h = no-tile l out (rw (le-leb (length columns) i h))
 
-  pub no-row : (l : Scratch) (out : Planes) → i < length columns → length rows ≤ j → noTile ≡ compared p i j l out
+  pub no-row : (l : Scratch) (out : Planes) → i < length columns → length rows ≤ j → (noTile ≡ compared p i j l out) × (l ≡ written p i j l)
   no-row l out g h = no-tile l out (rw (lt-leb (length columns) i g, le-leb (length rows) j h))
 
   is-tile : IsTile p i j → anyOf (noTileAt p i j) ≡ false
@@ -156,28 +157,43 @@ module _ (s : Code.Settings) (originals : Planes) (cells slices columns rows : L
   unfolding cut differences
   count-part part e own out = ap (λ (q : Part). differingPlanes s q (outputs (oneTile (alone s q) (partPlanes s q originals) (partCells s q cells) slices) own) out) e
 
+  filtered-part : (part : Part) → part ≡ luma → (own : Planes) → filteredPart s part originals cells slices own ≡ scratch (cut p i j .originals) (cut p i j .cells) (outputs (cut p i j) own)
+  unfolding cut
+  filtered-part part e own = ap (λ (q : Part). filteredPart s q originals cells slices own) e
+
   module _ (tile : IsTile p i j) (part : Part) (e : part ≡ luma) (own : Code.Settings) (eo : own ≡ alone s part) (l : Scratch) (out : Planes) (b : Bool)
       (told : b ≡ anyOf (badScratch (given own (planes [] [] []) [] [] [] []) l)) where
-    pub bad-lengths : b ≡ true → lengths ≡ compared p i j l out
-    unfolding compared
-    bad-lengths bad = rw (is-tile tile, sym (told ∙ scratch-as part e own eo l) ∙ bad)
+    pub bad-lengths : b ≡ true → (lengths ≡ compared p i j l out) × (l ≡ written p i j l)
+    unfolding compared written
+    bad-lengths bad =
+        let long = sym (told ∙ scratch-as part e own eo l) ∙ bad in
+        (rw (is-tile tile, long), rw (is-tile tile, long))
 
     pub count-is : b ≡ false → (r : ℕ)
         → r ≡ differingPlanes s part (outputs (oneTile (alone s part) (partPlanes s part originals) (partCells s part cells) slices) (l .own)) out
-        → differing r ≡ compared p i j l out
-    unfolding compared
-    count-is good r er =
+        → (left : Scratch) → left ≡ filteredPart s part originals cells slices (l .own)
+        → (differing r ≡ compared p i j l out) × (left ≡ written p i j l)
+    unfolding compared written
+    count-is good r er left el =
+        let long = sym (told ∙ scratch-as part e own eo l) ∙ good in
         let same : r ≡ differences p i j (outputs (cut p i j) (l .own)) out = er ∙ count-part part e (l .own) out in
-        rw (is-tile tile, sym (told ∙ scratch-as part e own eo l) ∙ good) (ap differing same)
+        (rw (is-tile tile, long) (ap differing same), rw (is-tile tile, long) (el ∙ filtered-part part e (l .own)))
 
 -- ---- the whole
 
 module _ (p : Picture) (lent : Planes) (i j : ℕ) (l : Scratch) where
+  is-refused : (v : Answer.Verdict) → numbered v ≡ verdict p lent → 0 < numbered v .number → eqb (verdict p lent .number) 0 ≡ false
+  is-refused v e h =
+      let some : verdict p lent .number ≡ 0 → ⊥ = λ z. let n : numbered v .number ≡ 0 = ap (λ v. v .number) e ∙ z in omega arith in
+      ne-eqb (verdict p lent .number) 0 some
+
   pub refusal-is : (v : Answer.Verdict) → numbered v ≡ verdict p lent → 0 < numbered v .number → refused (numbered v) ≡ outcome p lent i j l
   unfolding outcome
-  refusal-is v e h =
-      let some : verdict p lent .number ≡ 0 → ⊥ = λ z. let n : numbered v .number ≡ 0 = ap (λ v. v .number) e ∙ z in omega arith in
-      rw (ne-eqb (verdict p lent .number) 0 some) (ap refused e)
+  refusal-is v e h = rw (is-refused v e h) (ap refused e)
+
+  pub refusal-leaves : (v : Answer.Verdict) → numbered v ≡ verdict p lent → 0 < numbered v .number → l ≡ after p lent i j l
+  unfolding after
+  refusal-leaves v e h = rw (is-refused v e h)
 
   pub no-refusal : (v : Answer.Verdict) → numbered v ≡ verdict p lent → 0 < numbered v .number → Checkable p lent i j l → ⊥
   no-refusal v e h ok = let n : numbered v .number ≡ 0 = ap (λ v. v .number) (e ∙ ok .tile .accepted) in omega arith
@@ -185,6 +201,10 @@ module _ (p : Picture) (lent : Planes) (i j : ℕ) (l : Scratch) where
   pub outcome-is : verdict p lent ≡ acceptance → (o : Outcome) (out : Planes) → out ≡ outputs p lent → o ≡ compared p i j l out → o ≡ outcome p lent i j l
   unfolding outcome
   outcome-is ok o out eo e = e ∙ ap (compared p i j l) eo ∙ ap (λ (t : Bool). cond t (compared p i j l (outputs p lent)) (refused (verdict p lent))) (sym (eq-eqb _ _ (ap (λ v. v .number) ok)))
+
+  pub after-is : verdict p lent ≡ acceptance → (left : Scratch) → left ≡ written p i j l → left ≡ after p lent i j l
+  unfolding after
+  after-is ok left e = rw (eq-eqb _ _ (ap (λ v. v .number) ok)) e
 
   -- term 3: the count is 0
   pub none-differs : Checkable p lent i j l → outcome p lent i j l ≡ differing 0

@@ -9,8 +9,9 @@ use Rattle.picture.specs.declared.Settings as Code
 use Rattle.picture.specs.Given.{planes}
 use Rattle.picture.specs.Picture.{Planes}
 use Rattle.picture.specs.Plane.{Part, at, crop}
+use Rattle.tile_check.specs.Answer.{scratch}
 use Rattle.tile_check.specs.Parts.{Room}
-use Rattle.tile_check.specs.Ready.{Sized, differingPlanes, oneTile}
+use Rattle.tile_check.specs.Ready.{Sized, CutReady, alone, partPlanes, partCells, oneTile, filteredPart, differingPlanes}
 
 module _ {a b : Part} (e : a ≡ b) where
   pub room-as : {m n : ℕ} {l : List ℕ} → m ≡ n → Room b n l → Room a m l
@@ -36,6 +37,19 @@ pub sized-again : (s : Code.Settings) (luma : Part) (p q : Planes) → length (q
     → Sized s luma p → Sized s luma q
 sized-again s luma p q ey eb er ok = record { y = ey ∙ ok .y; cb = eb ∙ ok .cb; cr = er ∙ ok .cr }
 
+-- other planes of the same size
+pub ready-again : {s : Code.Settings} {luma : Part} {from to : Planes} {fromCells toCells : List ℕ} → CutReady s luma from fromCells to toCells
+    → (again : Planes) → Sized s luma again → CutReady s luma from fromCells again toCells
+ready-again ok again sized = record {
+  first = ok .first;
+  wide = ok .wide;
+  whole = ok .whole;
+  planes-in = ok .planes-in;
+  cells-in = ok .cells-in;
+  planes-own = sized;
+  cells-own = ok .cells-own;
+}
+
 -- the count, where the cut and what the stage leaves of it are known
 pub counted-cut : (s : Code.Settings) (luma : Part) {own own′ : Code.Settings} {cut cut′ : Planes} {cells cells′ : List ℕ} (slices : List ℕ) (lent left out : Planes) (r : ℕ)
     → own ≡ own′ → cut ≡ cut′ → cells ≡ cells′
@@ -44,3 +58,12 @@ pub counted-cut : (s : Code.Settings) (luma : Part) {own own′ : Code.Settings}
     → r ≡ differingPlanes s luma (outputs (oneTile own′ cut′ cells′ slices) lent) out
 counted-cut s luma slices lent left out r eo ec es el er =
     er ∙ ap (λ (o : Planes). differingPlanes s luma o out) (el ∙ (λ k. outputs (oneTile (eo k) (ec k) (es k) slices) lent))
+
+-- the lists after that
+pub filtered-cut : (s : Code.Settings) (luma : Part) {own : Code.Settings} (cut : Planes) (cells : List ℕ) (originals : Planes) (from slices : List ℕ) (lent left : Planes)
+    → own ≡ alone s luma → cut ≡ partPlanes s luma originals → cells ≡ partCells s luma from
+    → left ≡ outputs (oneTile own cut cells slices) lent
+    → scratch cut cells left ≡ filteredPart s luma originals from slices lent
+filtered-cut s luma cut cells originals from slices lent left eo ec es el =
+    let own-is : left ≡ filteredPart s luma originals from slices lent .own = el ∙ (λ k. outputs (oneTile (eo k) (ec k) (es k) slices) lent) in
+    λ k. record { originals = ec k; cells = es k; own = own-is k }

@@ -44,7 +44,7 @@ scratch originals cells own = record { originals = originals; cells = cells; own
 abbrev pub noTileAt : Picture → ℕ → ℕ → List Bool
 noTileAt p i j = leb (length (p .columns)) i ∷ leb (length (p .rows)) j ∷ []
 
--- the luma columns and rows of the cut of tile (i, j); none where there is no such tile, or no such size of CTB
+-- the luma columns and rows of the cut of tile (i, j); none where there is no such tile, or log2 of the CTB size is above 6
 unfoldable pub cutSize : Picture → ℕ → ℕ → CutSize
 cutSize p i j =
     cond (anyOf (ltb 6 (p .settings .log2-ctb) ∷ noTileAt p i j)) (record { width = 0; height = 0 })
@@ -57,7 +57,7 @@ badCells q cells = not (eqb (length cells) (8 * cellCount q)) ∷ []
 abbrev pub badScratch : Picture → Scratch → List Bool
 badScratch q s = badPlanes q (s .originals) ++ (badPlanes q (s .own) ++ badCells q (s .cells))
 
--- of an accepted picture with these outputs: is the tile there, are the lists long enough, and how many samples differ
+-- of an accepted picture with these outputs: is the tile there, have the lists their exact lengths, and how many samples differ
 unfoldable pub compared : Picture → ℕ → ℕ → Scratch → Planes → Outcome
 compared p i j s output =
     cond (anyOf (noTileAt p i j)) noTile
@@ -67,6 +67,18 @@ compared p i j s output =
 -- the picture's own verdict goes first; `lent` are the output planes lent with it
 unfoldable pub outcome : Picture → Planes → ℕ → ℕ → Scratch → Outcome
 outcome p lent i j s = cond (eqb (verdict p lent .number) 0) (compared p i j s (outputs p lent)) (refused (verdict p lent))
+
+-- what the lists hold after it, case by case as `compared`: where samples are counted, the cut's originals and cells and its outputs; else
+-- `s` itself, nothing written
+unfoldable pub written : Picture → ℕ → ℕ → Scratch → Scratch
+written p i j s =
+    cond (anyOf (noTileAt p i j)) s
+    (cond (anyOf (badScratch (cut p i j) s)) s
+    (scratch (cut p i j .originals) (cut p i j .cells) (outputs (cut p i j) (s .own))))
+
+-- the same, as `outcome`: nothing is written where the picture is refused
+unfoldable pub after : Picture → Planes → ℕ → ℕ → Scratch → Scratch
+after p lent i j s = cond (eqb (verdict p lent .number) 0) (written p i j s) s
 
 -- lists of the lengths that the cut q needs
 pub record ScratchOk (q : Picture) (s : Scratch) : Type 0 where

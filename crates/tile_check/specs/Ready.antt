@@ -4,11 +4,13 @@ use mathlib.Core.Path.{_≡_}
 use mathlib.Core.List.{List, [], _∷_}
 use lib.ListN.{length}
 use Rattle.filter.specs.Count.{differing}
+use Rattle.filter.specs.Finished.{outputs}
 use Rattle.picture.specs.declared.Settings as Code
 use Rattle.picture.specs.Given.{given, planes}
 use Rattle.picture.specs.Picture.{Picture, Planes}
 use Rattle.picture.specs.Plane.{Part, at, crop}
 use Rattle.picture.specs.Scale.{chromaAcross, fromLuma, cellOf}
+use Rattle.tile_check.specs.Answer.{Scratch, scratch}
 use Rattle.tile_check.specs.Parts.{Room, chromaPart, bytesPart}
 
 -- a picture's settings at the sizes of a part
@@ -46,6 +48,12 @@ partCells s luma cells = crop cells (8 * cellOf (s .width)) (bytesPart luma)
 -- a picture of one tile
 abbrev pub oneTile : Code.Settings → Planes → List ℕ → List ℕ → Picture
 oneTile s originals cells slices = given s originals cells slices (0 ∷ []) (0 ∷ [])
+
+-- the lists of a part once it is cut and filtered alone; `own` are the output planes lent for it
+abbrev pub filteredPart : Code.Settings → Part → Planes → List ℕ → List ℕ → Planes → Scratch
+filteredPart s luma originals cells slices own =
+    scratch (partPlanes s luma originals) (partCells s luma cells)
+    (outputs (oneTile (alone s luma) (partPlanes s luma originals) (partCells s luma cells) slices) own)
 
 -- the samples of `own`, planes of the part's size, that differ from the part of `out`
 abbrev pub differingPlanes : Code.Settings → Part → Planes → Planes → ℕ

@@ -12,8 +12,9 @@ ghost use mathlib.Core.Path.{_≡_};
 ghost use Prim.Native.Nat.{_≤_};
 ghost use Rattle.filter.specs.Finished.{outputs};
 ghost use Rattle.picture.specs.Given.{planes};
+ghost use Rattle.tile_check.specs.Answer.{scratch};
 ghost use Rattle.tile_check.specs.Parts.{partOf};
-ghost use Rattle.tile_check.specs.Ready.{alone, partPlanes, partCells, oneTile, differingPlanes, Rooms, Sized, CutReady};
+ghost use Rattle.tile_check.specs.Ready.{alone, partPlanes, partCells, oneTile, filteredPart, differingPlanes, Rooms, Sized, CutReady};
 
 // The settings of the cut: those of its picture, at its own sizes.
 pub(crate) fn alone(settings: Settings, luma: Part) -> Settings
@@ -54,6 +55,7 @@ fn make_cut(
 }
 
 // The stage on the cut, which is one tile: the starts are 0 and 0.
+// Its answer is dropped: the cut of an accepted picture is accepted (term 3), and `outputs` says what is left in either case.
 fn filter_cut(
     settings: Settings,
     y: &[u16],
@@ -133,6 +135,7 @@ pub(crate) fn compare_cut(
     requires { ⌜ Rooms settings (partOf luma) (planes (now outy) (now outcb) (now outcr)) ⌝ }
     requires { ⌜ Sized settings (partOf luma) (planes (now owny) (now owncb) (now owncr)) ⌝ }
     ensures { λ r. ⌜ r ≡ differingPlanes settings (partOf luma) (outputs (oneTile (alone settings (partOf luma)) (partPlanes settings (partOf luma) (planes (now (y .entry)) (now (cb .entry)) (now (cr .entry)))) (partCells settings (partOf luma) (now (cells .entry))) (now (slices .entry))) (planes (now (owny .entry)) (now (owncb .entry)) (now (owncr .entry)))) (planes (now (outy .entry)) (now (outcb .entry)) (now (outcr .entry))) ⌝ }
+    ensures { λ _. ⌜ scratch (planes (now (cuty .exit)) (now (cutcb .exit)) (now (cutcr .exit))) (now (cutcells .exit)) (planes (now (owny .exit)) (now (owncb .exit)) (now (owncr .exit))) ≡ filteredPart settings (partOf luma) (planes (now (y .entry)) (now (cb .entry)) (now (cr .entry))) (now (cells .entry)) (now (slices .entry)) (planes (now (owny .entry)) (now (owncb .entry)) (now (owncr .entry))) ⌝ }
 {
     make_cut(
         settings,

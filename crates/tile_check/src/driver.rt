@@ -16,7 +16,7 @@ ghost use Rattle.filter.specs.Finished.{outputs};
 ghost use Rattle.picture.specs.Accepted.{Accepted};
 ghost use Rattle.picture.specs.Given.{given, planes};
 ghost use Rattle.picture.specs.Ledger.{anyOf};
-ghost use Rattle.tile_check.specs.Answer.{Scratch, Checkable, scratch, badScratch, compared, differing, outcome, told};
+ghost use Rattle.tile_check.specs.Answer.{Scratch, Checkable, scratch, badScratch, compared, written, differing, outcome, after, told};
 
 // A list lent for the cut has not its exact length; `cells` and the others are the lengths.
 fn bad_scratch(
@@ -68,6 +68,7 @@ fn compare_tile(
 ) -> TileAnswer
     requires { ⌜ Accepted (given settings (planes (now y) (now cb) (now cr)) (now cells) (now slices) (now columns) (now rows)) (planes (now outy) (now outcb) (now outcr)) ⌝ }
     ensures { λ r. ⌜ told r ≡ compared (given settings (planes (now (y .entry)) (now (cb .entry)) (now (cr .entry))) (now (cells .entry)) (now (slices .entry)) (now (columns .entry)) (now (rows .entry))) i j (scratch (planes (now (cuty .entry)) (now (cutcb .entry)) (now (cutcr .entry))) (now (cutcells .entry)) (planes (now (owny .entry)) (now (owncb .entry)) (now (owncr .entry)))) (planes (now (outy .entry)) (now (outcb .entry)) (now (outcr .entry))) ⌝ }
+    ensures { λ _. ⌜ scratch (planes (now (cuty .exit)) (now (cutcb .exit)) (now (cutcr .exit))) (now (cutcells .exit)) (planes (now (owny .exit)) (now (owncb .exit)) (now (owncr .exit))) ≡ written (given settings (planes (now (y .entry)) (now (cb .entry)) (now (cr .entry))) (now (cells .entry)) (now (slices .entry)) (now (columns .entry)) (now (rows .entry))) i j (scratch (planes (now (cuty .entry)) (now (cutcb .entry)) (now (cutcr .entry))) (now (cutcells .entry)) (planes (now (owny .entry)) (now (owncb .entry)) (now (owncr .entry)))) ⌝ }
 {
     if columns.len() <= i {
         return TileAnswer::NoTile;
@@ -111,7 +112,7 @@ fn compare_tile(
 
 // Tile (i, j) of a picture: the picture is filtered into out, the tile cut out into cut, and the cut filtered into own; the answer is the
 // count of samples, over all planes, in which the two differ. In order: the picture's verdict, then whether the tile is there, then
-// whether the lists lent for the cut have their exact lengths. By term 3 the count is 0.
+// whether the lists lent for the cut have their exact lengths. By term 3 the count is 0. Where there is no count, cut and own are as lent.
 pub fn check_tile(
     settings: Settings,
     y: &[u16],
@@ -137,6 +138,7 @@ pub fn check_tile(
     ensures { λ r. ⌜ told r ≡ outcome (given settings (planes (now (y .entry)) (now (cb .entry)) (now (cr .entry))) (now (cells .entry)) (now (slices .entry)) (now (columns .entry)) (now (rows .entry))) (planes (now (outy .entry)) (now (outcb .entry)) (now (outcr .entry))) i j (scratch (planes (now (cuty .entry)) (now (cutcb .entry)) (now (cutcr .entry))) (now (cutcells .entry)) (planes (now (owny .entry)) (now (owncb .entry)) (now (owncr .entry)))) ⌝ }
     ensures { λ r. ⌜ (Checkable (given settings (planes (now (y .entry)) (now (cb .entry)) (now (cr .entry))) (now (cells .entry)) (now (slices .entry)) (now (columns .entry)) (now (rows .entry))) (planes (now (outy .entry)) (now (outcb .entry)) (now (outcr .entry))) i j (scratch (planes (now (cuty .entry)) (now (cutcb .entry)) (now (cutcr .entry))) (now (cutcells .entry)) (planes (now (owny .entry)) (now (owncb .entry)) (now (owncr .entry)))) → told r ≡ differing 0) ⌝ }
     ensures { λ _. ⌜ planes (now (outy .exit)) (now (outcb .exit)) (now (outcr .exit)) ≡ outputs (given settings (planes (now (y .entry)) (now (cb .entry)) (now (cr .entry))) (now (cells .entry)) (now (slices .entry)) (now (columns .entry)) (now (rows .entry))) (planes (now (outy .entry)) (now (outcb .entry)) (now (outcr .entry))) ⌝ }
+    ensures { λ _. ⌜ scratch (planes (now (cuty .exit)) (now (cutcb .exit)) (now (cutcr .exit))) (now (cutcells .exit)) (planes (now (owny .exit)) (now (owncb .exit)) (now (owncr .exit))) ≡ after (given settings (planes (now (y .entry)) (now (cb .entry)) (now (cr .entry))) (now (cells .entry)) (now (slices .entry)) (now (columns .entry)) (now (rows .entry))) (planes (now (outy .entry)) (now (outcb .entry)) (now (outcr .entry))) i j (scratch (planes (now (cuty .entry)) (now (cutcb .entry)) (now (cutcr .entry))) (now (cutcells .entry)) (planes (now (owny .entry)) (now (owncb .entry)) (now (owncr .entry)))) ⌝ }
 {
     let answer = apply_deblocking(
         settings,

@@ -8,7 +8,7 @@ ghost use mathlib.Core.Path.{_≡_};
 ghost use mathlib.Core.List.{[]};
 ghost use Prim.Native.Nat.{_-_, _<_, _≤_, _*_, _^_};
 ghost use lib.ListN.{length};
-ghost use Rattle.picture.specs.Cut.{tilePart, cellPart};
+ghost use Rattle.picture.specs.Cut.{tilePart};
 ghost use Rattle.picture.specs.Given.{given, planes};
 ghost use Rattle.picture.specs.Scale.{Y};
 ghost use Rattle.picture.specs.Tile.{tileFirst, tileEnd};

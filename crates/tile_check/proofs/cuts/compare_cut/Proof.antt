@@ -1,14 +1,18 @@
--- `compare_cut` meets its contract: the cut, what the stage leaves of it, and the count.
+-- `compare_cut` meets its contract: the cut, what the stage leaves of it, and the count; the lists hold the first two.
 -- Assumes nothing.
+use native.Mathlib.Omega.{arith}
 use borrow.Author.Needs.{needs}
 use Rattle.picture.specs.Given.{planes}
 use Rattle.tile_check.specs.Parts.{partOf}
-use Rattle.tile_check.proofs.Same.{sized-again, counted-cut}
+use Rattle.tile_check.proofs.Same.{sized-again, ready-again, counted-cut, filtered-cut}
 use Rattle.tile_check.proofs.cuts.compare_cut.Statement.{statement}
 use Rattle.tile_check.proofs.cuts.compare_cut.Tie as tie
 
 make-cut-requires : tie.Need-make-cut-requires
-make-cut-requires c κs = search needs
+make-cut-requires c κs =
+    let ready = c .before .before .before .before .before .before .before .before .before .before .before .before .before .before .before .before .before .before .before .pre .0 in
+    let own = ready .planes-own in
+    ready-again ready _ (record { y = own .y; cb = omega (arith, own .cb, own .cr); cr = omega (arith, own .cb, own .cr) })
 
 alone-requires : tie.Need-alone-requires
 alone-requires c κs = search needs
@@ -45,8 +49,12 @@ same-length-7 c = search needs
 returns : tie.Need-returns
 returns c =
     let a = c .before .before .before .before .before .before .before .before .before .before .before .before .before .before .before .before .before .before .before .before .before .before .before .before .before .before .before .before .before .before .before .before .before .before .before .before .before .before .before .before .before .before .before .before .before .before .before .args in
-    counted-cut (a .settings) (partOf (a .luma)) (a .slices .now) (planes (a .owny .now) (a .owncb .now) (a .owncr .now)) _ (planes (a .outy .now) (a .outcb .now) (a .outcr .now)) _
-    (c .before .before .before .before .before .before .before .before .before .before .before .before .before .before .before .before .before .before .alone .ensures) (c .before .before .before .before .before .before .before .before .before .before .before .before .before .before .before .before .before .before .before .before .before .before .before .before .before .before .before .make-cut .ensures .0) (c .before .before .before .before .before .before .before .before .before .before .before .before .before .before .before .before .before .before .before .before .before .before .before .before .before .before .before .make-cut .ensures .1) (c .before .before .before .before .before .before .before .before .before .before .filter-cut .ensures) (c .differing-samples .ensures)
+    let made = c .before .before .before .before .before .before .before .before .before .before .before .before .before .before .before .before .before .before .before .before .before .before .before .before .before .before .before .make-cut .ensures in
+    let own-is = c .before .before .before .before .before .before .before .before .before .before .before .before .before .before .before .before .before .before .alone .ensures in
+    let left = c .before .before .before .before .before .before .before .before .before .before .filter-cut .ensures in (
+      counted-cut (a .settings) (partOf (a .luma)) (a .slices .now) (planes (a .owny .now) (a .owncb .now) (a .owncr .now)) _ (planes (a .outy .now) (a .outcb .now) (a .outcr .now)) _ own-is (made .0) (made .1) left (c .differing-samples .ensures),
+      filtered-cut (a .settings) (partOf (a .luma)) _ _ (planes (a .y .now) (a .cb .now) (a .cr .now)) (a .cells .now) (a .slices .now) (planes (a .owny .now) (a .owncb .now) (a .owncr .now)) _ own-is (made .0) (made .1) left,
+    )
 
 pub compare-cut-spec : {M : Type 1} → statement M
 compare-cut-spec =

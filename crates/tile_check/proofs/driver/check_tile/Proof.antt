@@ -1,4 +1,4 @@
--- `check_tile` meets its contract: a refusal, or the tile compared; and by term 3 no sample differs.
+-- `check_tile` meets its contract: a refusal, or the tile compared, and what the lists hold after it; and by term 3 no sample differs.
 -- Assumes nothing.
 use mathlib.Core.Path.{_∙_}
 use borrow.Author.Needs.{needs}
@@ -8,7 +8,7 @@ use Rattle.picture.specs.Picture.{Picture, Planes}
 use Rattle.picture.proofs.Ledger.{accepted-by}
 use Rattle.stage.proofs.Outcome.{accepts}
 use Rattle.tile_check.specs.Answer.{Scratch, scratch}
-use Rattle.tile_check.proofs.Compared.{refusal-is, no-refusal, outcome-is, none-differs, accepted-again}
+use Rattle.tile_check.proofs.Compared.{refusal-is, refusal-leaves, no-refusal, outcome-is, after-is, none-differs, accepted-again}
 use Rattle.tile_check.proofs.driver.check_tile.Statement.{statement}
 use Rattle.tile_check.proofs.driver.check_tile.Tie as tie
 
@@ -44,7 +44,7 @@ returns c =
     let told = c .before .before .before .before .before .before .before .apply-deblocking .ensures .0 in
     let some = refuses v (c .match .keys2) in (
       refusal-is (picture st) (lent st) (st .args .i) (st .args .j) (lists st) v told some,
-      ((λ ok. absurd (no-refusal (picture st) (lent st) (st .args .i) (st .args .j) (lists st) v told some ok)), c .before .before .before .before .before .before .before .apply-deblocking .ensures .1),
+      ((λ ok. absurd (no-refusal (picture st) (lent st) (st .args .i) (st .args .j) (lists st) v told some ok)), (c .before .before .before .before .before .before .before .apply-deblocking .ensures .1, refusal-leaves (picture st) (lent st) (st .args .i) (st .args .j) (lists st) v told some)),
     )
 
 compare-tile-requires : tie.Need-compare-tile-requires
@@ -88,9 +88,9 @@ returns-2 c =
     let st = c .before .before .before .before .before .before .before .before .before .before .before .before .before .before .before .before .before .before .before .before .before .before .before .before .before .before .before .before .before .before .before .before .before .before .before .before .before .before .before .before .before .before .before .before .before .before .before .before .before .before .before .before .before .before in
     let left = c .before .before .before .before .before .before .before .before .before .before .before .before .before .before .before .before .before .before .before .before .before .before .before .before .before .before .before .before .before .before .before .before .before .apply-deblocking .ensures .1 in
     let ok = accepts (picture st) (lent st) (c .before .before .before .before .before .before .before .before .before .before .before .before .before .before .before .before .before .before .before .before .before .before .before .before .before .before .before .before .before .before .before .before .before .apply-deblocking .result) (c .before .before .before .before .before .before .before .before .before .before .before .before .before .before .before .before .before .before .before .before .before .before .before .before .before .before .before .before .before .before .before .before .before .apply-deblocking .ensures .0) (c .before .before .before .before .before .before .before .before .before .before .before .before .before .before .before .before .before .before .before .before .before .before .before .before .before .enum-told .given .1) in
-    let is = outcome-is (picture st) (lent st) (st .args .i) (st .args .j) (lists st) ok _ _ left (c .before .before .before .before .before .before .before .before .before .before .before .before .before .before .compare-tile .ensures) in (
+    let is = outcome-is (picture st) (lent st) (st .args .i) (st .args .j) (lists st) ok _ _ left (c .before .before .before .before .before .before .before .before .before .before .before .before .before .before .compare-tile .ensures .0) in (
       is,
-      ((λ fit. is ∙ none-differs (picture st) (lent st) (st .args .i) (st .args .j) (lists st) fit), left),
+      ((λ fit. is ∙ none-differs (picture st) (lent st) (st .args .i) (st .args .j) (lists st) fit), (left, after-is (picture st) (lent st) (st .args .i) (st .args .j) (lists st) ok _ (c .before .before .before .before .before .before .before .before .before .before .before .before .before .before .compare-tile .ensures .1))),
     )
 
 pub check-tile-spec : {M : Type 1} → statement M

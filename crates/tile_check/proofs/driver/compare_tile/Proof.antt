@@ -1,4 +1,4 @@
--- `compare_tile` meets its contract: no such tile, a list of another length, or the count.
+-- `compare_tile` meets its contract: no such tile, a list of another length, or the count; and what the lists hold after it.
 -- Assumes nothing.
 use mathlib.Core.Path.{refl, ap}
 use native.Mathlib.Omega.{arith}
@@ -98,7 +98,7 @@ returns-4 c =
     count-is (a .settings) (originals st) (a .cells .now) (a .slices .now) (a .columns .now) (a .rows .now) (a .i) (a .j) (record { column = c .before .before .before .before .before .before .before .before .before .before .before .before .before .before .before .before .before .before .before .before .before .before .before .before .before .before .before .if1 .left; row = c .before .before .before .before .before .before .before .before .before .before .before .before .before .before .before .before .before .before .before .before .before .before .before .before .before .before .if2 .left })
     (partOf (c .before .before .before .before .before .before .before .before .before .before .before .before .before .before .before .before .before .before .before .before .before .before .before .before .before .luma-part .result)) (c .before .before .before .before .before .before .before .before .before .before .before .before .before .before .before .before .before .before .before .before .before .before .before .before .before .luma-part .ensures) (c .before .before .before .before .before .before .before .before .before .before .before .before .before .before .before .before .before .before .before .before .before .before .before .before .alone .result) (c .before .before .before .before .before .before .before .before .before .before .before .before .before .before .before .before .before .before .before .before .before .before .before .before .alone .ensures) (lists st) (out st) (c .before .before .before .before .before .before .before .before .before .before .before .before .before .before .before .before .before .before .before .before .before .before .before .bad-scratch .result)
     (c .before .before .before .before .before .before .before .before .before .before .before .before .before .before .before .before .before .before .before .before .before .before .before .bad-scratch .ensures (lists st) (record { y = refl; cb = refl; cr = refl }) (record { y = refl; cb = refl; cr = refl }) refl) (c .before .before .before .before .before .before .before .before .before .before .before .before .before .before .before .before .before .before .before .before .before .before .if3 .left)
-    (c .before .before .before .before .before .before .before .before .before .before .before .before .before .before .compare-cut .result) (c .before .before .before .before .before .before .before .before .before .before .before .before .before .before .compare-cut .ensures)
+    (c .before .before .before .before .before .before .before .before .before .before .before .before .before .before .compare-cut .result) (c .before .before .before .before .before .before .before .before .before .before .before .before .before .before .compare-cut .ensures .0) _ (c .before .before .before .before .before .before .before .before .before .before .before .before .before .before .compare-cut .ensures .1)
 
 pub compare-tile-spec : {M : Type 1} → statement M
 compare-tile-spec =
