@@ -16,11 +16,13 @@ THRESHOLDS = [
     Edit("thresholds/luma", "(average as u32) + 2 * (offset as u32), 76)", "(average as u32) + 2 * (offset as u32), 75)"),
     Edit("thresholds/luma", "clip_index(53, v, 78)", "clip_index(52, v, 78)"),
     Edit("thresholds/luma", "+ 2 * (bs as u32) +", "+ (bs as u32) +"),
-    Edit("thresholds/tables", "    0,\n    6,\n", "    0,\n    5,\n"),
-    Edit("thresholds/tables", "    62,\n    64,\n];", "    62,\n    63,\n];"),
-    Edit("thresholds/tables", "    0,\n    1,\n", "    0,\n    0,\n"),
-    Edit("thresholds/tables", "    22,\n    24,\n];", "    22,\n    23,\n];"),
-    Edit("thresholds/tables", "35, 35, 36, 36, 37, 37];", "35, 35, 36, 36, 37, 38];"),
+    Edit("thresholds/tables", "if q < 16 {", "if q < 17 {"),
+    Edit("thresholds/tables", "(q - 10) as u16", "(q - 9) as u16"),
+    Edit("thresholds/tables", "(2 * q - 38) as u16", "(2 * q - 39) as u16"),
+    Edit("thresholds/tables", "if q < 18 {", "if q < 19 {"),
+    Edit("thresholds/tables", "% 32) as u16", "% 16) as u16"),
+    Edit("thresholds/tables", "890184970293028103", "854156173274064135"),  # the last row is 23
+    Edit("thresholds/tables", "(31 + q / 2) as u32", "(31 + (q + 1) / 2) as u32"),
     Edit("thresholds/tables", "v << (depth - 8)", "v << (depth - 8) / 2"),
     Edit("thresholds/chroma", "let low = 76 - 6 * (depth - 8);", "let low = 76;",
          "below 4 the chroma QP gives tc 0 with every offset, so its lower end does not show"),
@@ -47,8 +49,21 @@ DECISION = [
     Edit("windows/luma", "base + 3 * along, across)", "base + 2 * along, across)"),
 ]
 
+WINDOWS = [
+    Edit("windows/rows", "base + across, a.p2, b.p2, c.p2, d.p2)", "base + across, a.p2, c.p2, b.p2, d.p2)"),
+    Edit("windows/rows", "a.q2, b.q2, c.q2, d.q2)", "a.q2, b.q2, c.q2, c.q2)"),
+    Edit("windows/rows", "weak_line(most, tc, p, q, take_line(&s[..], base + 3, across))",
+         "weak_line(most, tc, q, p, take_line(&s[..], base + 3, across))"),
+    Edit("windows/turned", "take_line(s, base + 2 * along, 1)", "take_line(s, base + along, 1)"),
+    Edit("windows/turned", "take_line(t, j, 4)", "take_line(t, 3 - j, 4)"),
+    Edit("windows/chroma", "at + across, a.p0, b.p0, c.p0, d.p0)", "at + across, a.p0, c.p0, b.p0, d.p0)"),
+    Edit("windows/chroma", "let at = base + 2 * across;", "let at = base + 1 * across;"),
+    Edit("windows/luma", "if across == 1 {", "if across == 2 {", "the plain form, which is then taken, gives the same"),
+    Edit("windows/chroma", "if along == 1 {", "if along == 2 {", "the plain form, which is then taken, gives the same"),
+]
+
 LINES = [
-    Edit("lines/strong", "let d = 2 * (tc as u32);", "let d = tc as u32;"),
+    Edit("lines/strong", "let d = raised(tc, tc);", "let d = tc;"),
     Edit("lines/strong", "2 * (d as u32) + (e as u32) + 4) >> 3", "2 * (d as u32) + (e as u32) + 3) >> 3"),
     Edit("lines/strong", "(d as u32) + 2) >> 2", "(d as u32) + 1) >> 2"),
     Edit("lines/strong", "(2 * (a as u32) + 3 * (b as u32)", "(3 * (a as u32) + 2 * (b as u32)"),
@@ -58,9 +73,9 @@ LINES = [
     Edit("lines/weak", "let half = tc >> 1;", "let half = tc;"),
     Edit("lines/weak", "(x0 as u32) + 1) >> 1;", "(x0 as u32)) >> 1;"),
     Edit("lines/weak", "l.q2, l.q1, l.q0, e),", "l.q2, l.q1, l.q0, d),"),
-    Edit("lines/delta", "} else if 65536 + w < d {", "} else if 65537 + w < d {"),
+    Edit("lines/delta", "at_most(65536 + w, d)", "at_most(65537 + w, d)"),
     Edit("lines/delta", "if s < 65536 {", "if s < 65530 {"),
-    Edit("lines/delta", "s - 65536 < most as u32 {", "s - 65536 < 65535 {"),
+    Edit("lines/delta", "at_most(65536 + (most as u32), (x as u32) + d)", "at_most(131071, (x as u32) + d)"),
     Edit("lines/chroma", "524292", "524291"),
     Edit("lines/chroma", "(4 * (l.p0 as u32) + (l.q1 as u32))", "(4 * (l.p0 as u32) + (l.p1 as u32))"),
 ]
@@ -153,7 +168,7 @@ CHECKS = [
     Edit("checks/cells", "if count <= (low as usize)", "if count < (low as usize)"),
     Edit("checks/cells", "sixth != 0 || seventh != 0", "sixth != 0 || seventh > 1"),
     Edit("checks/samples", "if largest < plane[k] {", "if largest <= plane[k] {"),
-    Edit("checks/samples", "while k < 32 {", "while k < 31 {"),
+    Edit("checks/samples", "while k < 256 {", "while k < 255 {"),
     Edit("checks/samples", "return y.len() + blue;", "return blue;"),
     Edit("checks/ledger", "if bad_sizes(settings.width, settings.height) {",
          "if bad_sizes(settings.width, settings.height) && !bad_format(settings) {"),
@@ -163,4 +178,4 @@ CHECKS = [
     Edit("tinladle/lib", "*place = place_of(answer);", "*place = 0;"),
 ]
 
-EDITS = [*THRESHOLDS, *DECISION, *LINES, *GATE, *TILES_AND_POSITIONS, *PASSES, *RESTORATION, *CHECKS]
+EDITS = [*THRESHOLDS, *DECISION, *LINES, *WINDOWS, *GATE, *TILES_AND_POSITIONS, *PASSES, *RESTORATION, *CHECKS]
