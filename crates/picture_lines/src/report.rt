@@ -8,6 +8,8 @@ use checks::place_of;
 use libc::STDOUT_FILENO;
 use tile_check::CutSize;
 use tile_check::TileAnswer;
+ghost use mathlib.Core.Bool.{false};
+ghost use mathlib.Core.Path.{_≡_};
 
 fn put_number(n: u64) -> bool {
     if !io::print_decimal(STDOUT_FILENO, n) {
@@ -105,8 +107,10 @@ pub fn put_tile(
     }
 }
 
-// A word in place of a line; nothing is read after it.
-pub fn stop(word: &[u8]) -> bool {
+// A word in place of a line. The answer is not to go on.
+pub fn stop(word: &[u8]) -> bool
+    ensures { λ r. ⌜ r ≡ false ⌝ }
+{
     io::write_all(STDOUT_FILENO, word);
     false
 }

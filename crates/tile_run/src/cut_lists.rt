@@ -19,7 +19,8 @@ fn area(width: usize, height: usize, most: usize) -> usize
     width * height
 }
 
-pub(crate) fn luma_samples(size: CutSize) -> usize
+// Of a plane of this size.
+pub(crate) fn plane_samples(size: CutSize) -> usize
     ensures { λ r. ⌜ r ≤ 40000 ⌝ }
 {
     area(size.width, size.height, SAMPLES)

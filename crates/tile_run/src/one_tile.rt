@@ -7,7 +7,7 @@ use crate::cut_lists::at_most;
 use crate::cut_lists::cell_bytes;
 use crate::cut_lists::chroma_size;
 use crate::cut_lists::length_of;
-use crate::cut_lists::luma_samples;
+use crate::cut_lists::plane_samples;
 use picture::Settings;
 use picture_lines::put_place;
 use picture_lines::put_tile;
@@ -85,8 +85,8 @@ fn with_own(
     cutcells: &mut [u8],
 ) -> bool {
     let size = cut_size(settings, columns, rows, i, j);
-    let luma = luma_samples(size);
-    let chroma = luma_samples(chroma_size(settings.chroma_format, size));
+    let luma = plane_samples(size);
+    let chroma = plane_samples(chroma_size(settings.chroma_format, size));
     let a = length_of(5, luma, wrong, SAMPLES);
     let b = length_of(6, chroma, wrong, SAMPLES);
     let c = length_of(7, chroma, wrong, SAMPLES);
@@ -135,8 +135,8 @@ fn with_cut(
     outcr: &mut [u16],
 ) -> bool {
     let size = cut_size(settings, columns, rows, i, j);
-    let luma = luma_samples(size);
-    let chroma = luma_samples(chroma_size(settings.chroma_format, size));
+    let luma = plane_samples(size);
+    let chroma = plane_samples(chroma_size(settings.chroma_format, size));
     let a = length_of(1, luma, wrong, SAMPLES);
     let b = length_of(2, chroma, wrong, SAMPLES);
     let c = length_of(3, chroma, wrong, SAMPLES);

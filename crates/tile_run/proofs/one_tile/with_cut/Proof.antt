@@ -9,14 +9,14 @@ use Rattle.tile_run.proofs.one_tile.with_cut.Tie as tie
 cut-size-requires : tie.Need-cut-size-requires
 cut-size-requires c κs = search needs
 
-luma-samples-requires : tie.Need-luma-samples-requires
-luma-samples-requires c κs = search needs
+plane-samples-requires : tie.Need-plane-samples-requires
+plane-samples-requires c κs = search needs
 
 chroma-size-requires : tie.Need-chroma-size-requires
 chroma-size-requires c κs = search needs
 
-luma-samples-requires-2 : tie.Need-luma-samples-requires-2
-luma-samples-requires-2 c κs = search needs
+plane-samples-requires-2 : tie.Need-plane-samples-requires-2
+plane-samples-requires-2 c κs = search needs
 
 length-of-requires : tie.Need-length-of-requires
 length-of-requires c κs = search needs
@@ -77,9 +77,9 @@ with-cut-spec =
     tie.close
     (tie.spec
     cut-size-requires
-    luma-samples-requires
+    plane-samples-requires
     chroma-size-requires
-    luma-samples-requires-2
+    plane-samples-requires-2
     length-of-requires
     length-of-requires-2
     length-of-requires-3
