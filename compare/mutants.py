@@ -79,10 +79,7 @@ def prepare(source):
         (tools / "bin" / tool).symlink_to(own / "toolchain" / "bin" / tool)
     (tools / "bin" / "clang").write_text(STAND_IN)
     (tools / "bin" / "clang").chmod(0o755)
-    link = ROOT / "target" / "oracle" / "customer"
-    link.parent.mkdir(parents=True, exist_ok=True)
-    link.unlink(missing_ok=True)
-    link.symlink_to(source)
+    must(ROOT / "scripts" / "customer.sh", source)
     must("cc", "-O2", "-fPIC", "-I", ROOT / "include", "-c", "-o", WORK / "unproved.o", ROOT / "compare" / "unproved.c")
     unmutated = build(copy_sources("unchanged"))
     must("rustc", "--edition", "2024", "-C", "opt-level=3", "-C", "debug-assertions=on", "-C", "overflow-checks=on", "-L",

@@ -6,22 +6,16 @@
 # and written to target/compare/smallest, as a record that target/bin/picture_cases reads.
 set -eu
 root=$(cd "$(dirname "$0")/.." && pwd)
-src=$root/../shared/docs/src
 case ${1:-} in
-'' | --*) ;;
+'' | --*) "$root/scripts/customer.sh" ;;
 *)
-    src=$1
+    "$root/scripts/customer.sh" "$1"
     shift
     ;;
 esac
-src=$(cd "$src" && pwd)
+"$root/scripts/library.sh"
 cd "$root"
-mkdir -p target/oracle target/compare
-ln -sfn "$src" target/oracle/customer
-rt staticlib tinladle >target/compare/staticlib.out 2>&1 || {
-    tail -n 20 target/compare/staticlib.out
-    exit 1
-}
+mkdir -p target/compare
 # Checks stay on: an overflow or a range out of bounds in the customer's code is a difference.
 rustc --edition 2024 -C opt-level=3 -C debug-assertions=on -C overflow-checks=on \
     -L native=target/staticlib -l static=tinladle -o target/compare/compare compare/main.rs

@@ -5,9 +5,6 @@ set -eu
 root=$(cd "$(dirname "$0")/.." && pwd)
 cd "$root"
 mkdir -p target/guard
-rt staticlib tinladle >target/guard/staticlib.out 2>&1 || {
-    tail -n 20 target/guard/staticlib.out
-    exit 1
-}
+scripts/library.sh
 ${CC:-cc} -std=c11 -O1 -g -Wall -Wextra -Werror -Iinclude -o target/guard/guard guard/guard.c target/staticlib/libtinladle.a
 target/guard/guard

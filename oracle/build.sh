@@ -4,10 +4,8 @@
 # The programs are target/oracle/bench and target/oracle/picture.
 set -eu
 root=$(cd "$(dirname "$0")/.." && pwd)
-src=$(cd "${1:-$root/../shared/docs/src}" && pwd)
+"$root/scripts/customer.sh" "$@"
 cd "$root"
-mkdir -p target/oracle
-ln -sfn "$src" target/oracle/customer
 # Checks stay on: an overflow or a range out of bounds in the customer's code stops the oracle.
 for program in bench picture; do
     rustc --edition 2024 -O -C debug-assertions=on -C overflow-checks=on \

@@ -90,17 +90,24 @@ def step_at(column, row, **fields):
     return picture
 
 
+FAR = 10 ** 6  # past every picture
+
+
+def t1(columns):
+    """T1: a step at column 16, which is a tile's border where the columns say so."""
+    return step_at(16, FAR, width=32, height=16, columns=columns)
+
+
 def tile_figures():
-    far = 10 ** 6
-    picture = step_at(16, far, width=32, height=16, columns=[0, 1])
+    picture = t1([0, 1])
     yield Case("T1: columns 0, 1: nothing crosses column 16", picture, check=stays(picture))
-    picture = step_at(16, far, width=32, height=16)
+    picture = t1([0])
     yield Case("T1 with columns 0: it crosses", picture, check=moves(picture))
-    picture = step_at(far, 16, width=16, height=32, rows=[0, 1])
+    picture = step_at(FAR, 16, width=16, height=32, rows=[0, 1])
     yield Case("rows 0, 1: nothing crosses row 16", picture, check=stays(picture))
-    picture = step_at(far, 16, width=16, height=32)
+    picture = step_at(FAR, 16, width=16, height=32)
     yield Case("rows 0: it crosses row 16", picture, check=moves(picture))
-    picture = step_at(8, far, width=32, height=16, columns=[0, 1])
+    picture = step_at(8, FAR, width=32, height=16, columns=[0, 1])
     yield Case("columns 0, 1: column 8 lies within a tile", picture, check=moves(picture))
 
 

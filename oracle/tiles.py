@@ -15,7 +15,7 @@ sys.dont_write_bytecode = True
 
 from ledger import SCALES, verdict
 from picture_records import HORIZONTAL, LOSSLESS, PCM, VERTICAL, Picture, checksum, oracle, random_picture
-from pictures import FAULTS, Case, colour, moves, restored, stays, step_at
+from pictures import FAR, FAULTS, Case, colour, moves, restored, stays, step_at, t1
 from records import Random
 from stored import is_checking, store
 
@@ -200,13 +200,12 @@ def many():
 
 
 def figures():
-    far = 10 ** 6
-    picture = step_at(16, far, width=32, height=16, columns=[0, 1])
+    picture = t1([0, 1])
     yield Case("T1: a step at the border of two tiles", picture, check=stays(picture))
-    picture = step_at(16, far, width=32, height=16)
+    picture = t1([0])
     yield Case("T1 in one tile", picture, check=moves(picture))
     for flag, name in [(LOSSLESS, "lossless"), (0, "not suppressed")]:
-        picture = step_at(8, far, width=32, height=16, columns=[0, 1])
+        picture = step_at(8, FAR, width=32, height=16, columns=[0, 1])
         picture.fill(0, lambda x, y: 100 if x < 8 else 108 if x < 16 else 112)
         picture.set_cells(lambda record, x, y: record.__setitem__(1, 3 | (flag if x >= 4 else 0)))
         yield Case(f"steps within the left tile and on the border, the right tile {name}", picture, check=moves(picture))

@@ -4,14 +4,10 @@
 # RUNS (default 15): how often each is run, in turn.
 set -eu
 root=$(cd "$(dirname "$0")/.." && pwd)
-src=$(cd "${1:-$root/../shared/docs/src}" && pwd)
+"$root/scripts/customer.sh" "$@"
+"$root/scripts/library.sh"
 cd "$root"
-mkdir -p target/oracle target/speed
-ln -sfn "$src" target/oracle/customer
-rt staticlib tinladle >target/speed/staticlib.out 2>&1 || {
-    tail -n 20 target/speed/staticlib.out
-    exit 1
-}
+mkdir -p target/speed
 # The feature "avx" makes the customer's `resolve_..` functions look for AVX2; the scalar path does not go through them.
 rustc --edition 2024 -C opt-level=3 --cfg 'feature="avx"' \
     -L native=target/staticlib -l static=tinladle -o target/speed/speed speed/speed.rs
