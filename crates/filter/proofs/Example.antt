@@ -64,17 +64,26 @@ row columns cell =
 
 -- T1 with columns 0: the edge at column 16 is filtered, as in S1
 one-tile : row (0 ∷ []) filtered ≡ 100 ∷ 101 ∷ 101 ∷ 102 ∷ 103 ∷ 103 ∷ 104 ∷ 104 ∷ []
-unfolding repeated picture filtered row _⊖_ _⊞_ _⊟_ neg _⊠_ lt _>>_ clip3 abs natOf passOf restored finishedPlane kernel window pass slicesOpen gate lumaFilter chromaFilter between segmentAt activity dSam decision clip1 near strongLine delta0 sideDelta second weakBy weakLine lumaLine cellAt suppressed at table sliceAt sameTile averageQp betaIndex tcIndex scaled lumaBeta lumaTc BETA TC
+unfolding repeated picture filtered row _⊖_ _⊞_ _⊟_ neg _⊠_ lt _>>_ clip3 abs natOf passOf restored finishedPlane
+    kernel window pass slicesOpen gate lumaFilter chromaFilter between segmentAt activity dSam decision clip1 near
+    strongLine delta0 sideDelta second weakBy weakLine lumaLine cellAt suppressed at table sliceAt sameTile averageQp
+    betaIndex tcIndex scaled lumaBeta lumaTc BETA TC
 one-tile = refl
 
 -- T1 with columns 0, 1: nothing crosses column 16
 two-tiles : row (0 ∷ 1 ∷ []) filtered ≡ 100 ∷ 100 ∷ 100 ∷ 100 ∷ 104 ∷ 104 ∷ 104 ∷ 104 ∷ []
-unfolding repeated picture filtered row _⊖_ _⊞_ _⊟_ neg _⊠_ lt _>>_ clip3 abs natOf passOf restored finishedPlane kernel window pass slicesOpen gate lumaFilter chromaFilter between segmentAt activity dSam decision clip1 near strongLine delta0 sideDelta second weakBy weakLine lumaLine cellAt suppressed at table sliceAt sameTile averageQp betaIndex tcIndex scaled lumaBeta lumaTc BETA TC
+unfolding repeated picture filtered row _⊖_ _⊞_ _⊟_ neg _⊠_ lt _>>_ clip3 abs natOf passOf restored finishedPlane
+    kernel window pass slicesOpen gate lumaFilter chromaFilter between segmentAt activity dSam decision clip1 near
+    strongLine delta0 sideDelta second weakBy weakLine lumaLine cellAt suppressed at table sliceAt sameTile averageQp
+    betaIndex tcIndex scaled lumaBeta lumaTc BETA TC
 two-tiles = refl
 
 -- lossless cells keep their samples though their edges are open
 lossless-kept : row (0 ∷ []) lossless ≡ 100 ∷ 100 ∷ 100 ∷ 100 ∷ 104 ∷ 104 ∷ 104 ∷ 104 ∷ []
-unfolding repeated picture lossless row _⊖_ _⊞_ _⊟_ neg _⊠_ lt _>>_ clip3 abs natOf passOf restored finishedPlane kernel window pass slicesOpen gate lumaFilter chromaFilter between segmentAt activity dSam decision clip1 near strongLine delta0 sideDelta second weakBy weakLine lumaLine cellAt suppressed at table sliceAt sameTile averageQp betaIndex tcIndex scaled lumaBeta lumaTc BETA TC
+unfolding repeated picture lossless row _⊖_ _⊞_ _⊟_ neg _⊠_ lt _>>_ clip3 abs natOf passOf restored finishedPlane
+    kernel window pass slicesOpen gate lumaFilter chromaFilter between segmentAt activity dSam decision clip1 near
+    strongLine delta0 sideDelta second weakBy weakLine lumaLine cellAt suppressed at table sliceAt sameTile averageQp
+    betaIndex tcIndex scaled lumaBeta lumaTc BETA TC
 lossless-kept = refl
 
 -- B2: height 24 ends at 20 and 24; height 16 is one band

@@ -12,6 +12,37 @@ use Rattle.thresholds.specs.Luma.{averageQp, betaIndex, tcIndex, scaled, lumaBe
 use Rattle.thresholds.specs.Tables.{BETA, TC, QPC}
 
 pub figures-given : AllGiven figures
-unfolding _⊞_ _⊟_ neg _⊠_ lt _>>_ clip3 abs natOf horizontalBandEnd bandsFrom horizontalBands caseOf chromaDelta chromaLine activity dSam decision clip1 near strongLine delta0 sideDelta second weakBy weakLine lumaLine clippedIndex tableQpc mappedQp chromaQp chromaTc averageQp betaIndex tcIndex scaled lumaBeta lumaTc BETA TC QPC
-figures-given =
-    ((refl, refl), ((refl, refl), ((refl, refl), ((refl, refl), ((refl, refl), ((refl, refl), (refl, (refl, (refl, (refl, (refl, (refl, (refl, ((refl, refl), ((refl, refl), (refl, tt))))))))))))))))
+unfolding _⊞_ _⊟_ neg _⊠_ lt _>>_ clip3 abs natOf horizontalBandEnd bandsFrom horizontalBands caseOf chromaDelta
+    chromaLine activity dSam decision clip1 near strongLine delta0 sideDelta second weakBy weakLine lumaLine
+    clippedIndex tableQpc mappedQp chromaQp chromaTc averageQp betaIndex tcIndex scaled lumaBeta lumaTc BETA TC QPC
+figures-given = (
+  (refl, refl),
+  (
+    (refl, refl),
+    (
+      (refl, refl),
+      (
+        (refl, refl),
+        (
+          (refl, refl),
+          (
+            (refl, refl),
+            (
+              refl,
+              (
+                refl,
+                (
+                  refl,
+                  (
+                    refl,
+                    (refl, (refl, (refl, (refl, ((refl, refl), ((refl, refl), (refl, tt))))))),
+                  ),
+                ),
+              ),
+            ),
+          ),
+        ),
+      ),
+    ),
+  ),
+)

@@ -7,6 +7,7 @@ use borrow.Author.Tests.{le-leb, lt-leb, eq-eqb, ne-eqb}
 use lib.Dec.{eqb}
 use lib.IntN.{ℤ, pos}
 use Rattle.ints.specs.Int.{_⊖_}
+use Rattle.ints.specs.Sample.{largestAt}
 use Rattle.filter.specs.declared.SliceGate.the-variants.{Closed, Open}
 use Rattle.filter.specs.Answer.{sliceGate}
 use Rattle.filter.specs.Bands.{horizontalBandEnd}
@@ -15,7 +16,6 @@ use Rattle.filter.specs.Segment.{slicesOpen, lumaFilter, chromaFilter}
 use Rattle.picture.specs.declared.Cell.{Cell}
 use Rattle.picture.specs.declared.Slice.{Slice}
 use Rattle.picture.specs.Cell.{suppressed, qpOf}
-use Rattle.picture.specs.Picture.{largestAt}
 use Rattle.picture.specs.Slice.{sliceAt}
 use Rattle.thresholds.specs.Chroma.{chromaTc}
 use Rattle.thresholds.specs.Luma.{averageQp, lumaBeta, lumaTc}
@@ -26,11 +26,13 @@ pub band-last : (total h r : ℕ) → total ≤ r + h → total ≡ horizontalBa
 unfolding horizontalBandEnd
 band-last total h r past = simp (le-leb _ _ past)
 
-pub band-near : (total h r e : ℕ) → r + h < total → (r + h) % 8 ≤ 4 → e ≡ min (r + h + 4 - (r + h) % 8) total → e ≡ horizontalBandEnd total h r
+pub band-near : (total h r e : ℕ) → r + h < total → (r + h) % 8 ≤ 4 → e ≡ min (r + h + 4 - (r + h) % 8) total
+    → e ≡ horizontalBandEnd total h r
 unfolding horizontalBandEnd
 band-near total h r e inside low is = simp (lt-leb _ _ inside, le-leb _ _ low) is
 
-pub band-far : (total h r e : ℕ) → r + h < total → 4 < (r + h) % 8 → e ≡ min (r + h + 12 - (r + h) % 8) total → e ≡ horizontalBandEnd total h r
+pub band-far : (total h r e : ℕ) → r + h < total → 4 < (r + h) % 8 → e ≡ min (r + h + 12 - (r + h) % 8) total
+    → e ≡ horizontalBandEnd total h r
 unfolding horizontalBandEnd
 band-far total h r e inside high is = simp (lt-leb _ _ inside, lt-leb _ _ high) is
 
@@ -67,31 +69,31 @@ pub suppressed-lossless : (pcm : Bool) (c : Cell) → c .flags / 4 % 2 ≡ 1 →
 unfolding suppressed
 suppressed-lossless pcm c e = simp (eq-eqb _ _ e)
 
-pub suppressed-pcm : (pcm : Bool) (c : Cell) → (c .flags / 4 % 2 ≡ 1 → ⊥) → c .flags / 8 % 2 ≡ 1 → pcm ≡ suppressed pcm c
+pub suppressed-pcm : (pcm : Bool) (c : Cell) → (c .flags / 4 % 2 ≡ 1 → ⊥) → c .flags / 8 % 2 ≡ 1
+    → pcm ≡ suppressed pcm c
 unfolding suppressed
 suppressed-pcm pcm c n e = simp (ne-eqb _ _ n, eq-eqb _ _ e)
 
-pub suppressed-not : (pcm : Bool) (c : Cell) → (c .flags / 4 % 2 ≡ 1 → ⊥) → (c .flags / 8 % 2 ≡ 1 → ⊥) → false ≡ suppressed pcm c
+pub suppressed-not : (pcm : Bool) (c : Cell) → (c .flags / 4 % 2 ≡ 1 → ⊥) → (c .flags / 8 % 2 ≡ 1 → ⊥)
+    → false ≡ suppressed pcm c
 unfolding suppressed
 suppressed-not pcm c n m = simp (ne-eqb _ _ n, ne-eqb _ _ m)
 
 -- ---- thresholds, by the average QP
 
-pub luma-made : (depth : ℕ) (p q : Cell) (s : Slice) (bS a β tc : ℕ)
-    → a ⊖ 64 ≡ averageQp (qpOf p) (qpOf q)
-    → β ≡ lumaBeta depth (a ⊖ 64) (s .beta ⊖ 6)
-    → tc ≡ lumaTc depth (a ⊖ 64) (pos bS) (s .tc ⊖ 6)
-    → luma β tc (largestAt depth) ≡ lumaFilter depth p q s bS
-unfolding lumaFilter
-luma-made depth p q s bS a β tc ea eb et =
-    ap₂ (λ (m n : ℕ). luma m n (largestAt depth))
-    (eb ∙ ap (λ (z : ℤ). lumaBeta depth z (s .beta ⊖ 6)) ea)
-    (et ∙ ap (λ (z : ℤ). lumaTc depth z (pos bS) (s .tc ⊖ 6)) ea)
+module _ (depth : ℕ) (p q : Cell) (s : Slice) (a : ℕ) {largest : ℕ} (ea : a ⊖ 64 ≡ averageQp (qpOf p) (qpOf q))
+    (el : largest ≡ largestAt depth) where
+  pub luma-made : (bS : ℕ) {β tc : ℕ} → β ≡ lumaBeta depth (a ⊖ 64) (s .beta ⊖ 6)
+      → tc ≡ lumaTc depth (a ⊖ 64) (pos bS) (s .tc ⊖ 6) → luma β tc largest ≡ lumaFilter depth p q s bS
+  unfolding lumaFilter
+  luma-made bS eb et =
+      let β-is = eb ∙ ap (λ (z : ℤ). lumaBeta depth z (s .beta ⊖ 6)) ea in
+      let tc-is = et ∙ ap (λ (z : ℤ). lumaTc depth z (pos bS) (s .tc ⊖ 6)) ea in
+      λ i. luma (β-is i) (tc-is i) (el i)
 
-pub chroma-made : (format depth : ℕ) (offset : ℤ) (p q : Cell) (s : Slice) (a tc : ℕ)
-    → a ⊖ 64 ≡ averageQp (qpOf p) (qpOf q)
-    → tc ≡ chromaTc format depth (a ⊖ 64) offset (s .tc ⊖ 6)
-    → chroma tc (largestAt depth) ≡ chromaFilter format depth offset p q s
-unfolding chromaFilter
-chroma-made format depth offset p q s a tc ea et =
-    ap (λ (n : ℕ). chroma n (largestAt depth)) (et ∙ ap (λ (z : ℤ). chromaTc format depth z offset (s .tc ⊖ 6)) ea)
+  pub chroma-made : (format : ℕ) (offset : ℤ) {tc : ℕ} → tc ≡ chromaTc format depth (a ⊖ 64) offset (s .tc ⊖ 6)
+      → chroma tc largest ≡ chromaFilter format depth offset p q s
+  unfolding chromaFilter
+  chroma-made format offset et =
+      let tc-is = et ∙ ap (λ (z : ℤ). chromaTc format depth z offset (s .tc ⊖ 6)) ea in
+      λ i. chroma (tc-is i) (el i)

@@ -1,3 +1,6 @@
+pub mod AllBands
+pub mod AllPlaces
+pub mod Ends
 pub mod Example
 pub mod Figures
 pub mod Leaves

@@ -1,7 +1,12 @@
--- Document 01, 'Bands': where a pass over a plane is cut into bands of rows. "Passes over bands equal one pass over the plane."
+-- Document 01, 'Bands': where a pass over a plane is cut into bands of rows. "Passes over bands equal one pass over
+-- the plane": no sample can show where it is cut. proofs/AllBands.antt has what can be said of the bands: each row
+-- lies in exactly one, and no window crosses an end; the invariants of the passes' loops say that they go through
+-- these very lists.
 use Prim.Native.Nat.{ℕ, zero, suc, _+_, _-_, _%_, min}
-use mathlib.Core.Bool.{cond}
+use mathlib.Core.Path.{_≡_}
+use mathlib.Core.Bool.{cond, _&&_}
 use mathlib.Core.List.{List, [], _∷_}
+use mathlib.Core.Logic.{_⊎_}
 use lib.Dec.{leb, ltb}
 use Rattle.picture.specs.Picture.{Settings, ctbSize, down}
 use Rattle.picture.specs.Scale.{Component}
@@ -14,8 +19,8 @@ bandHeight t c = down t c (ctbSize t)
 unfoldable pub ctbBandEnd : ℕ → ℕ → ℕ → ℕ
 ctbBandEnd total height r = min (r + height) total
 
--- "Horizontal bands: from r, the target is r plus that height. At or past the total, the band ends at the total. Otherwise it ends at
--- target + 4 − m for m = target mod 8 at most 4, else target + 12 − m, never past the total."
+-- "Horizontal bands: from r, the target is r plus that height. At or past the total, the band ends at the total.
+-- Otherwise it ends at target + 4 − m for m = target mod 8 at most 4, else target + 12 − m, never past the total."
 unfoldable pub horizontalBandEnd : ℕ → ℕ → ℕ → ℕ
 horizontalBandEnd total height r =
     let target : ℕ = r + height in
@@ -34,3 +39,13 @@ ctbBands total height = bandsFrom (ctbBandEnd total height) total total 0
 
 unfoldable pub horizontalBands : ℕ → ℕ → List ℕ
 horizontalBands total height = bandsFrom (horizontalBandEnd total height) total total 0
+
+-- in how many of the bands a row lies, of those from row r on that end at these rows
+abbrev pub bandsWith : ℕ → ℕ → List ℕ → ℕ
+bandsWith y r [] = 0
+bandsWith y r (end ∷ more) = cond (leb r y && ltb y end) 1 0 + bandsWith y end more
+
+-- a row of a plane of h rows before which no window of a horizontal edge is cut: the first, the end, or four below an
+-- edge
+abbrev pub Seam : ℕ → ℕ → Type 0
+Seam h r = (r ≡ 0) ⊎ ((r ≡ h) ⊎ (r % 8 ≡ 4))

@@ -16,12 +16,12 @@ use Rattle.lines.specs.Luma.{lumaLine}
 use Rattle.thresholds.specs.Chroma.{chromaQp, chromaTc}
 use Rattle.thresholds.specs.Luma.{averageQp, lumaBeta, lumaTc}
 
-abbrev pub lineOf : ℕ → ℕ → ℕ → ℕ → ℕ → ℕ → ℕ → ℕ → Line
-lineOf p3 p2 p1 p0 q0 q1 q2 q3 =
+abbrev pub lumaSamples : ℕ → ℕ → ℕ → ℕ → ℕ → ℕ → ℕ → ℕ → Line
+lumaSamples p3 p2 p1 p0 q0 q1 q2 q3 =
     record { p3 = p3; p2 = p2; p1 = p1; p0 = p0; q0 = q0; q1 = q1; q2 = q2; q3 = q3 }
 
-abbrev pub chromaOf : ℕ → ℕ → ℕ → ℕ → ChromaLine
-chromaOf p1 p0 q0 q1 = record { p1 = p1; p0 = p0; q0 = q0; q1 = q1 }
+abbrev pub chromaSamples : ℕ → ℕ → ℕ → ℕ → ChromaLine
+chromaSamples p1 p0 q0 q1 = record { p1 = p1; p0 = p0; q0 = q0; q1 = q1 }
 
 -- "Segments: depth 8, both QP 37, bS 2, offsets 0 (β 36, tc 5), all lines alike, p side 100."
 abbrev pub segmentBeta : ℕ
@@ -31,7 +31,7 @@ abbrev pub segmentTc : ℕ
 segmentTc = lumaTc 8 (averageQp (pos 37) (pos 37)) (pos 2) (pos 0)
 
 abbrev pub step : ℕ → Line
-step q = lineOf 100 100 100 100 q q q q
+step q = lumaSamples 100 100 100 100 q q q q
 
 pub data Figure : Type 0 where
   -- β and tC of the segments
@@ -67,13 +67,14 @@ abbrev pub figures : List Figure
 figures =
     thresholds 36 5
     -- S1: q side 104; S2: 112; S3: 113 is weak; S4: 231; S5: 232 is unchanged
-    ∷ segment 104 Strong (lineOf 100 101 101 102 103 103 104 104)
-    ∷ segment 112 Strong (lineOf 100 102 103 105 108 109 111 112)
-    ∷ segment 113 (Weak true true) (lineOf 100 100 102 105 108 111 113 113)
-    ∷ segment 231 (Weak true true) (lineOf 100 100 102 105 226 229 231 231)
+    ∷ segment 104 Strong (lumaSamples 100 101 101 102 103 103 104 104)
+    ∷ segment 112 Strong (lumaSamples 100 102 103 105 108 109 111 112)
+    ∷ segment 113 (Weak true true) (lumaSamples 100 100 102 105 108 111 113 113)
+    ∷ segment 231 (Weak true true) (lumaSamples 100 100 102 105 226 229 231 231)
     ∷ segment 232 (Weak true true) (step 232)
-    -- S7: QP -1 and -2 average to -1
+    -- S7: QP -1 and -2 average to -1; and -1 and -1, where the floor and rounding to zero part
     ∷ average (negsuc 0) (negsuc 1) (negsuc 0)
+    ∷ average (negsuc 0) (negsuc 0) (negsuc 0)
     -- Q1, format 1; Q2, format 1 and format 2
     ∷ chromaQps 1 (pos 29) (pos 29)
     ∷ chromaQps 1 (pos 30) (pos 29)
@@ -82,8 +83,8 @@ figures =
     ∷ chromaQps 1 (pos 57) (pos 51)
     ∷ chromaQps 2 (pos 52) (pos 51)
     -- K1: QP 37, tC 4; K2: QP 30, tC 3
-    ∷ chroma (pos 37) 4 (chromaOf 50 50 60 60) (chromaOf 50 54 56 60)
-    ∷ chroma (pos 30) 3 (chromaOf 50 50 60 60) (chromaOf 50 53 57 60)
+    ∷ chroma (pos 37) 4 (chromaSamples 50 50 60 60) (chromaSamples 50 54 56 60)
+    ∷ chroma (pos 30) 3 (chromaSamples 50 50 60 60) (chromaSamples 50 53 57 60)
     -- B1: height 64, CTB 16
     ∷ bands 64 16 (20 ∷ 36 ∷ 52 ∷ 64 ∷ [])
     ∷ []

@@ -1,5 +1,6 @@
--- Document 01, 'The filter, in order': "Output starts as the original. Then: luma vertical edges, restoration; luma horizontal edges on
--- that result, restoration; Cb and Cr likewise." Clause 8.7.2.1 has the same order of the two directions.
+-- Document 01, 'The filter, in order': "Output starts as the original. Then: luma vertical edges, restoration; luma
+-- horizontal edges on that result, restoration; Cb and Cr likewise." Clause 8.7.2.1 has the same order of the two
+-- directions.
 use Prim.Native.Nat.{ℕ}
 use mathlib.Core.Bool.{cond}
 use mathlib.Core.List.{List}
@@ -7,8 +8,8 @@ use lib.Dec.{eqb}
 use Rattle.filter.specs.Kernel.{kernel}
 use Rattle.filter.specs.Pass.{pass}
 use Rattle.filter.specs.Segment.{Direction, vertical, horizontal, segment}
+use Rattle.picture.specs.Causes.{verdict}
 use Rattle.picture.specs.Cell.{suppressed, cellOfSample}
-use Rattle.picture.specs.Ledger.{verdict}
 use Rattle.picture.specs.Picture.{Picture, Planes, planeWidth, planeHeight, original}
 use Rattle.picture.specs.Plane.{Plane, table, transposed}
 use Rattle.picture.specs.Scale.{Component, Y, Cb, Cr, samplingAcross, samplingDown, toLuma}
@@ -18,13 +19,14 @@ unfoldable pub passOf : Picture → Component → Direction → Plane → Plane
 passOf p c vertical P = pass kernel (planeWidth p c) (segment p c vertical) P
 passOf p c horizontal P = transposed (pass kernel (planeHeight p c) (segment p c horizontal) (transposed P))
 
--- 'Restoration': "After each pass a held cell has its original samples again"; "A chroma sample belongs to the cell of its scaled luma
--- position."
+-- 'Restoration': "After each pass a held cell has its original samples again"; "A chroma sample belongs to the cell
+-- of its scaled luma position."
 unfoldable pub restored : Picture → Component → Plane → Plane
 restored p c P x y =
     cond
     (suppressed (p .settings .pcm-loop-filter-disabled)
-    (cellOfSample p (toLuma (samplingAcross (p .settings .format) c) x) (toLuma (samplingDown (p .settings .format) c) y)))
+    (cellOfSample p (toLuma (samplingAcross (p .settings .format) c) x)
+    (toLuma (samplingDown (p .settings .format) c) y)))
     (original p c x y)
     (P x y)
 
@@ -39,6 +41,7 @@ finished p = record { y = list Y; cb = list Cb; cr = list Cr }
     list : Component → List ℕ
     list c = table (planeWidth p c) (planeHeight p c) (finishedPlane p c)
 
--- what the stage leaves in the output planes: the finished planes, or on a refusal what they held ("A refusal changes no output sample")
+-- what the stage leaves in the output planes: the finished planes, or on a refusal what they held ("A refusal changes
+-- no output sample")
 unfoldable pub outputs : Picture → Planes → Planes
 outputs p planes = cond (eqb (verdict p planes .number) 0) (finished p) planes

@@ -9,14 +9,14 @@ use Rattle.lines.specs.Decision.{decision}
 use Rattle.lines.specs.Luma.{lumaLine}
 use Rattle.picture.specs.Plane.{Plane}
 
--- the thresholds of an open segment and the largest sample: β, tC and it; or tC and it
+-- the thresholds of an open segment and the largest sample: β, tC and that; or tC and that
 pub data Filter : Type 0 where
   luma : ℕ → ℕ → ℕ → Filter
   chroma : ℕ → ℕ → Filter
 
 abbrev pub tcOf : Filter → ℕ
-tcOf (luma β tc max) = tc
-tcOf (chroma tc max) = tc
+tcOf (luma β tc largest) = tc
+tcOf (chroma tc largest) = tc
 
 -- line j of a window
 abbrev pub lineOf : Plane → ℕ → Line
@@ -35,5 +35,6 @@ chromaSamplesOf W j l = W 0 j ∷ W 1 j ∷ l .p1 ∷ l .p0 ∷ l .q0 ∷ l .q1 
 
 -- sample i of line j of a filtered window. Luma: "The decision reads lines 0 and 3 only and holds for all four lines".
 unfoldable pub kernel : Filter → Plane → Plane
-kernel (luma β tc max) W i j = getD (samplesOf (lumaLine (decision β tc (lineOf W 0) (lineOf W 3)) max tc (lineOf W j))) i 0
-kernel (chroma tc max) W i j = getD (chromaSamplesOf W j (chromaLine max tc (chromaLineOf W j))) i 0
+kernel (luma β tc largest) W i j =
+    getD (samplesOf (lumaLine (decision β tc (lineOf W 0) (lineOf W 3)) largest tc (lineOf W j))) i 0
+kernel (chroma tc largest) W i j = getD (chromaSamplesOf W j (chromaLine largest tc (chromaLineOf W j))) i 0

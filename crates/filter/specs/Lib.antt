@@ -1,6 +1,7 @@
 pub mod Pass
 pub mod Kernel
 pub mod Segment
+pub mod Places
 pub mod Answer
 pub mod Finished
 pub mod Bands

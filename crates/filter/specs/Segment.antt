@@ -1,4 +1,5 @@
--- Which segments are open, and their thresholds. Document 01, 'Gate', 'Luma' and 'Chroma'; clauses 8.7.2.1, 8.7.2.5.3 and 8.7.2.5.5.
+-- Which segments are open, and their thresholds. Document 01, 'Gate', 'Luma' and 'Chroma'; clauses 8.7.2.1, 8.7.2.5.3
+-- and 8.7.2.5.5.
 use Prim.Native.Nat.{ℕ, _+_, _-_}
 use mathlib.Core.Bool.{Bool, cond, not, _&&_, _||_}
 use mathlib.Core.List.{List}
@@ -6,11 +7,12 @@ use mathlib.Core.Option.{Option, none, some}
 use lib.Dec.{leb, ltb, eqb}
 use lib.IntN.{ℤ, pos}
 use Rattle.ints.specs.Int.{_⊖_}
+use Rattle.ints.specs.Sample.{largestAt}
 use Rattle.filter.specs.Kernel.{Filter, luma, chroma, tcOf}
 use Rattle.picture.specs.declared.Cell.{Cell}
 use Rattle.picture.specs.declared.Slice.{Slice}
 use Rattle.picture.specs.Cell.{bit, cellOfSample, qpOf}
-use Rattle.picture.specs.Picture.{Picture, Settings, largestAt}
+use Rattle.picture.specs.Picture.{Picture, Settings}
 use Rattle.picture.specs.Scale.{Component, Y, Cb, Cr, samplingAcross, samplingDown, toLuma}
 use Rattle.picture.specs.Slice.{sliceAt}
 use Rattle.picture.specs.Tile.{sameTile}
@@ -40,8 +42,8 @@ leastBs Cr = 2
 unfoldable pub slicesOpen : Cell → Cell → Slice → Bool
 slicesOpen p q sliceQ = (sliceQ .across || eqb (p .slice) (q .slice)) && not (sliceQ .disabled)
 
--- 'Gate': "A segment is open when the Q cell's edge flag is set, its bS is at least 1 (chroma: 2), P and Q lie in one tile", and the
--- slices allow it
+-- 'Gate': "A segment is open when the Q cell's edge flag is set, its bS is at least 1 (chroma: 2), P and Q lie in one
+-- tile", and the slices allow it
 unfoldable pub gate : Component → Direction → Cell → Cell → Slice → Bool → Bool
 gate c d p q sliceQ oneTile = edgeFlag d q && (leb (leastBs c) (bsOf d q) && (oneTile && slicesOpen p q sliceQ))
 
@@ -61,7 +63,8 @@ filterOf t Y p q sliceQ bS = lumaFilter (t .luma-depth) p q sliceQ bS
 filterOf t Cb p q sliceQ bS = chromaFilter (t .format) (t .chroma-depth) (t .cb-offset) p q sliceQ
 filterOf t Cr p q sliceQ bS = chromaFilter (t .format) (t .chroma-depth) (t .cr-offset) p q sliceQ
 
--- how the segment between the cells P and Q is filtered: none where the gate is closed or tC is 0 ("tc 0 leaves the segment alone")
+-- how the segment between the cells P and Q is filtered: none where the gate is closed or tC is 0 ("tc 0 leaves the
+-- segment alone")
 unfoldable pub between : Settings → List ℕ → Component → Direction → Cell → Cell → Bool → Option Filter
 between t slices c d p q oneTile =
     let sliceQ : Slice = sliceAt slices (q .slice) in
@@ -73,8 +76,8 @@ pub record Position : Type 0 where
   pub x : ℕ
   pub y : ℕ
 
--- the position of Q of the segment at edge e whose first line is l: "The Q cell is that of the segment's second sample; chroma positions
--- are scaled to luma by the format."
+-- the position of Q of the segment at edge e whose first line is l: "The Q cell is that of the segment's second
+-- sample; chroma positions are scaled to luma by the format."
 abbrev pub positionQ : Settings → Component → Direction → ℕ → ℕ → Position
 positionQ t c vertical e l = record {
   x = toLuma (samplingAcross (t .format) c) e;

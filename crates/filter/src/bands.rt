@@ -15,7 +15,8 @@ pub fn ctb_band_end(total: usize, height: usize, row: usize) -> usize
     }
 }
 
-// The end of the horizontal pass's band that starts at a row: four rows below an edge, so that it splits no edge's samples.
+// The end of the horizontal pass's band that starts at a row: four rows below an edge, so that it splits no edge's
+// samples.
 pub fn horiz_band_end(total: usize, height: usize, row: usize) -> usize
     requires { ⌜ row + height < 2 ^ 32 ⌝ }
     ensures { λ r. ⌜ r ≡ horizontalBandEnd total height row ⌝ }

@@ -6,12 +6,13 @@ ghost use mathlib.Core.Path.{_≡_};
 ghost use Prim.Native.Nat.{_<_};
 ghost use Rattle.filter.specs.Answer.{sliceGate};
 ghost use Rattle.picture.specs.Cell.{suppressed};
+ghost use Rattle.picture.specs.Lent.{given};
 ghost use Rattle.picture.specs.Slice.{sliceCount};
 
 // Q's slice decides: it must not be disabled, and must filter across unless P lies in it too.
 pub fn slice_gate(slices: &[u8], p: Cell, q: Cell) -> SliceGate
     requires { ⌜ q .slice < sliceCount (now slices) ⌝ }
-    ensures { λ r. ⌜ r ≡ sliceGate (now (slices .entry)) p q ⌝ }
+    ensures { λ r. ⌜ r ≡ sliceGate (given slices) p q ⌝ }
 {
     let s = slice_at(slices, q.slice as usize);
     if s.disabled {
@@ -26,7 +27,8 @@ pub fn slice_gate(slices: &[u8], p: Cell, q: Cell) -> SliceGate
     SliceGate::Closed
 }
 
-// sample_suppressed of the Rust: a lossless cell, or a PCM one with the switch on, keeps its original samples. Its edges stay open.
+// sample_suppressed of the Rust: a lossless cell, or a PCM one with the switch on, keeps its original samples. Its
+// edges stay open.
 pub fn is_suppressed(pcm: bool, c: Cell) -> bool
     ensures { λ r. ⌜ r ≡ suppressed pcm c ⌝ }
 {

@@ -1,31 +1,38 @@
-// A segment's thresholds, of its two cells and Q's slice.
-
-use crate::LumaThresholds;
+// How a segment whose gate is open is filtered, by its two cells and Q's slice.
+use crate::ChromaFilter;
+use crate::Component;
+use crate::LumaFilter;
 use picture::Cell;
 use picture::Slice;
+use thresholds::average_qp;
+use thresholds::chroma_tc;
+use thresholds::luma_beta;
+use thresholds::luma_tc;
 ghost use mathlib.Core.Path.{_≡_};
-ghost use Prim.Native.Nat.{_≤_};
 ghost use Rattle.ints.specs.Int.{_⊖_};
-ghost use Rattle.filter.specs.Kernel.{luma, chroma};
-ghost use Rattle.filter.specs.Segment.{lumaFilter, chromaFilter};
-ghost use Rattle.picture.specs.Picture.{largestAt};
+ghost use Rattle.filter.specs.Answer.{Sound, chromaOf, lumaOf};
+ghost use Rattle.filter.specs.Segment.{chromaFilter, lumaFilter};
 
-pub fn luma_thresholds(depth: u32, p: Cell, q: Cell, s: Slice, bs: u8) -> LumaThresholds
-    requires { ⌜ (8 ≤ depth) × (depth ≤ 16) ⌝ }
-    ensures { λ r. ⌜ luma (r .beta) (r .tc) (largestAt depth) ≡ lumaFilter depth p q s bs ⌝ }
+pub fn luma_filter(k: Component, p: Cell, q: Cell, s: Slice, bs: u8) -> LumaFilter
+    requires { ⌜ Sound k ⌝ }
+    ensures { λ r. ⌜ lumaOf r ≡ lumaFilter (k .depth) p q s bs ⌝ }
 {
-    let average = thresholds::average_qp(p.qp, q.qp);
-    LumaThresholds {
-        beta: thresholds::luma_beta(depth, average, s.beta),
-        tc: thresholds::luma_tc(depth, average, bs, s.tc),
+    let average = average_qp(p.qp, q.qp);
+    LumaFilter {
+        beta: luma_beta(k.depth, average, s.beta),
+        tc: luma_tc(k.depth, average, bs, s.tc),
+        largest: k.largest,
     }
 }
 
-// tc of one chroma plane; its offset, of Cb or of Cr, is held 12 more.
-pub fn chroma_threshold(format: u32, depth: u32, pic: u8, p: Cell, q: Cell, s: Slice) -> u16
-    requires { ⌜ (8 ≤ depth) × (depth ≤ 16) ⌝ }
-    ensures { λ r. ⌜ chroma r (largestAt depth) ≡ chromaFilter format depth (pic ⊖ 12) p q s ⌝ }
+// Of one chroma plane, by its own offset.
+pub fn chroma_filter(k: Component, p: Cell, q: Cell, s: Slice) -> ChromaFilter
+    requires { ⌜ Sound k ⌝ }
+    ensures { λ r. ⌜ chromaOf r ≡ chromaFilter (k .format) (k .depth) (k .offset ⊖ 12) p q s ⌝ }
 {
-    let average = thresholds::average_qp(p.qp, q.qp);
-    thresholds::chroma_tc(format, depth, average, pic, s.tc)
+    let average = average_qp(p.qp, q.qp);
+    ChromaFilter {
+        tc: chroma_tc(k.format, k.depth, average, k.offset, s.tc),
+        largest: k.largest,
+    }
 }

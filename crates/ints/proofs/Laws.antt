@@ -1,4 +1,5 @@
--- Every expression of naturals over ℤ is brought to the form `a ⊖ b`, and what is asked of such forms becomes a fact on naturals, for `omega`.
+-- Every expression of naturals over ℤ is brought to the form `a ⊖ b`, and what is asked of such forms becomes a fact
+-- on naturals, for `omega`.
 use Prim.Native.Nat.{ℕ, zero, suc, _+_, _*_, _-_, _/_, _%_, _^_, _≤_, _<_, min, max}
 use mathlib.Core.Path.{_≡_, refl, sym, _∙_, ap, ap₂, subst}
 use mathlib.Core.Bool.{Bool, true, false, cond, not}
@@ -85,7 +86,8 @@ mul-raw k a b = ap (λ (t : ℤ). t *ℤ (a ⊖ b)) (sym (pos-diff k)) ∙ go (e
   where
     go : (a < b) ⊎ (b ≤ a) → pos k *ℤ (a ⊖ b) ≡ (k * a) ⊖ (k * b)
     go (inl p) =
-        let e : k * b ≡ k * a + k * suc (b - suc a) = ap (λ (t : ℕ). k * t) (omega arith) ∙ mul-add k a (suc (b - suc a)) in
+        let e : k * b ≡ k * a + k * suc (b - suc a) =
+        ap (λ (t : ℕ). k * t) (omega arith) ∙ mul-add k a (suc (b - suc a)) in
         ap (λ (t : ℤ). pos k *ℤ t) (diff-neg a b p)
         ∙ ap negℤ (pos-diff (k * suc (b - suc a)))
         ∙ neg-raw (k * suc (b - suc a)) 0
@@ -145,10 +147,14 @@ unfolding lt
 lt-diff a b c d = go (either a b) (either c d)
   where
     go : (a < b) ⊎ (b ≤ a) → (c < d) ⊎ (d ≤ c) → ltZ (a ⊖ b) (c ⊖ d) ≡ ltb (a + d) (c + b)
-    go (inl p) (inl q) = ap₂ ltZ (diff-neg a b p) (diff-neg c d q) ∙ same-test (d - suc c) (b - suc a) (a + d) (c + b) (λ h. omega arith) (λ h. omega arith)
+    go (inl p) (inl q) =
+        ap₂ ltZ (diff-neg a b p) (diff-neg c d q)
+        ∙ same-test (d - suc c) (b - suc a) (a + d) (c + b) (λ h. omega arith) (λ h. omega arith)
     go (inl p) (inr q) = ap₂ ltZ (diff-neg a b p) (diff-pos c d q) ∙ sym (lt-ltb (a + d) (c + b) (omega arith))
     go (inr p) (inl q) = ap₂ ltZ (diff-pos a b p) (diff-neg c d q) ∙ sym (le-ltb (a + d) (c + b) (omega arith))
-    go (inr p) (inr q) = ap₂ ltZ (diff-pos a b p) (diff-pos c d q) ∙ same-test (a - b) (c - d) (a + d) (c + b) (λ h. omega arith) (λ h. omega arith)
+    go (inr p) (inr q) =
+        ap₂ ltZ (diff-pos a b p) (diff-pos c d q)
+        ∙ same-test (a - b) (c - d) (a + d) (c + b) (λ h. omega arith) (λ h. omega arith)
 
 -- against a natural
 pub lt-pos : (e f n : ℕ) → lt (e ⊖ f) (pos n) ≡ ltb e (n + f)
@@ -200,21 +206,24 @@ shr-diff K k a b h = go (either a b)
         ∙ sym (diff-neg 0 (suc (n / 2 ^ k)) (omega arith) ∙ ap negsuc (omega arith))
         ∙ diff-eq 0 (suc (n / 2 ^ k)) _ K (omega arith)
     go (inr p) =
-        let d : (a + K * 2 ^ k - b) / 2 ^ k ≡ (a - b) / 2 ^ k + K = ap (λ (t : ℕ). t / 2 ^ k) (omega arith) ∙ add-mul-div-right (a - b) K (pow-pos k) in
+        let d : (a + K * 2 ^ k - b) / 2 ^ k ≡ (a - b) / 2 ^ k + K =
+        ap (λ (t : ℕ). t / 2 ^ k) (omega arith) ∙ add-mul-div-right (a - b) K (pow-pos k) in
         ap (λ (z : ℤ). shrZ z (2 ^ k)) (diff-pos a b p)
         ∙ pos-diff ((a - b) / 2 ^ k)
         ∙ diff-eq ((a - b) / 2 ^ k) 0 _ K (omega arith)
 
 -- ---- Clip3: of any three differences, and in the three forms that the standard uses
 
-pub clip-diff : (a b c d e f : ℕ) → a + d ≤ c + b → clip3 (a ⊖ b) (c ⊖ d) (e ⊖ f) ≡ max (a + d + f) (min (c + b + f) (e + b + d)) ⊖ (b + d + f)
+pub clip-diff : (a b c d e f : ℕ) → a + d ≤ c + b
+    → clip3 (a ⊖ b) (c ⊖ d) (e ⊖ f) ≡ max (a + d + f) (min (c + b + f) (e + b + d)) ⊖ (b + d + f)
 unfolding clip3
 clip-diff a b c d e f h = simp lt-diff (go (either (e + b) (a + f)) (either (c + f) (e + d)))
   where
     res : ℤ
     res = max (a + d + f) (min (c + b + f) (e + b + d)) ⊖ (b + d + f)
 
-    go : (e + b < a + f) ⊎ (a + f ≤ e + b) → (c + f < e + d) ⊎ (e + d ≤ c + f) → cond (ltb (e + b) (a + f)) (a ⊖ b) (cond (ltb (c + f) (e + d)) (c ⊖ d) (e ⊖ f)) ≡ res
+    go : (e + b < a + f) ⊎ (a + f ≤ e + b) → (c + f < e + d) ⊎ (e + d ≤ c + f)
+        → cond (ltb (e + b) (a + f)) (a ⊖ b) (cond (ltb (c + f) (e + d)) (c ⊖ d) (e ⊖ f)) ≡ res
     go (inl p) q = simp (lt-ltb _ _ p) (diff-eq a b _ _ (omega arith))
     go (inr p) (inl q) = simp (le-ltb _ _ p, lt-ltb _ _ q) (diff-eq c d _ _ (omega arith))
     go (inr p) (inr q) = simp (le-ltb _ _ p, le-ltb _ _ q) (diff-eq e f _ _ (omega arith))
@@ -225,7 +234,8 @@ clip-sym t e f = simp diffs (clip-diff 0 t t 0 e f (omega arith) ∙ diff-eq _ _
 
 -- Clip3(x - d, x + d, v) of naturals
 pub clip-near : (x d v : ℕ) → clip3 (pos x ⊟ pos d) (pos x ⊞ pos d) (pos v) ≡ pos (max (x - d) (min (x + d) v))
-clip-near x d v = simp diffs (clip-diff (x + 0) (0 + d) (x + d) (0 + 0) v 0 (omega arith) ∙ diff-eq _ _ _ _ (omega arith))
+clip-near x d v =
+    simp diffs (clip-diff (x + 0) (0 + d) (x + d) (0 + 0) v 0 (omega arith) ∙ diff-eq _ _ _ _ (omega arith))
 
 -- Clip3(0, m, v)
 pub clip-unit : (m e f : ℕ) → clip3 (pos 0) (pos m) (e ⊖ f) ≡ pos (min m (e - f))

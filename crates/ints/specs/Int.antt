@@ -1,5 +1,6 @@
--- The operations of ITU-T H.265 clauses 5.7 to 5.9 on integers: sum, difference, product, the shift that rounds down, Clip3 and Abs.
--- Each is one line over lib.IntN's ℤ. They are closed (unfoldable): lib.IntN's own compute away, and a proof could no longer name them.
+-- The operations of ITU-T H.265 clauses 5.7 to 5.9 on integers: sum, difference, product, the shift that rounds down,
+-- Clip3 and Abs. Each is one line over lib.IntN's ℤ. They are closed (unfoldable): lib.IntN's own compute away, and a
+-- proof could no longer name them.
 use Prim.Native.Nat.{ℕ, zero, _^_}
 use mathlib.Core.Bool.{Bool, cond}
 use lib.IntN.{ℤ, pos, negsuc, natAbs, negℤ, subℕ, _+ℤ_, _-ℤ_, _*ℤ_}

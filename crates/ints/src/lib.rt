@@ -1,9 +1,10 @@
-// The standard's integer operations on unsigned machine numbers. The crate's specs hold the operations over the integers, and its
-// proofs the laws that carry an expression of integers to naturals.
+// The standard's integer operations on unsigned machine numbers, and the largest sample of a depth. The crate's specs
+// hold the operations over the integers, and its proofs the laws that carry an expression of integers to naturals.
 ghost use mathlib.Core.Path.{_≡_};
-ghost use Prim.Native.Nat.{_+_, _-_, min};
+ghost use Prim.Native.Nat.{_+_, _-_, _≤_, min};
 ghost use lib.IntN.{pos};
 ghost use Rattle.ints.specs.Int.{_⊖_, _⊟_, abs, clip3, natOf};
+ghost use Rattle.ints.specs.Sample.{largestAt};
 
 // Abs(a - b). The second clause says the same in naturals.
 pub fn abs_diff(a: u32, b: u32) -> u32
@@ -25,4 +26,12 @@ pub fn clip_index(most: u32, v: u32, bias: u32) -> u32
     } else {
         most
     }
+}
+
+// The largest sample of a depth.
+pub fn largest_at(depth: u32) -> u16
+    requires { ⌜ depth ≤ 16 ⌝ }
+    ensures { λ r. ⌜ r ≡ largestAt depth ⌝ }
+{
+    ((1u32 << depth) - 1) as u16
 }

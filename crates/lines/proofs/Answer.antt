@@ -1,25 +1,46 @@
--- The enum LumaDecision loses nothing that the filter reads: filtering by a decision's case is filtering by the decision.
+-- The enum LumaDecision loses nothing that the filter reads: filtering by a decision's case is filtering by the
+-- decision.
 use Prim.Native.Nat.{ℕ, zero, suc, _+_, _*_, _/_, _^_, _≤_}
 use mathlib.Core.Path.{_≡_, refl}
 use mathlib.Core.Bool.{Bool, true, false, cond, _&&_}
 use native.Mathlib.Omega.{arith}
 use lib.Dec.{ltb}
 use Rattle.lines.specs.declared.Line.{Line}
+use Rattle.lines.specs.declared.LumaDecision.the-variants.{Skip}
 use Rattle.lines.specs.Answer.{valuesOf, caseOf}
 use Rattle.lines.specs.Decision.{Decision, dpOf, dqOf, dSam, decision}
 use Rattle.lines.specs.Luma.{lumaLine}
 
-pub case-filters : (d : Decision) (m t : ℕ) (l : Line) → d .dE ≤ 2 → lumaLine (valuesOf (caseOf d)) m t l ≡ lumaLine d m t l
-unfolding caseOf lumaLine
-case-filters d m t l = go (d .dE) (d .dEp) (d .dEq)
+-- each decision with dE 0, 1 or 2
+by-case : (P : Decision → Type 0)
+    → ((p q : Bool) → P (record { dE = 0; dEp = p; dEq = q }))
+    → ((p q : Bool) → P (record { dE = 1; dEp = p; dEq = q }))
+    → ((p q : Bool) → P (record { dE = 2; dEp = p; dEq = q }))
+    → (d : Decision) → d .dE ≤ 2 → P d
+by-case P skip weak strong d = go (d .dE) (d .dEp) (d .dEq)
   where
-    go : (n : ℕ) (p q : Bool) → n ≤ 2 → lumaLine (valuesOf (caseOf (record { dE = n; dEp = p; dEq = q }))) m t l ≡ lumaLine (record { dE = n; dEp = p; dEq = q }) m t l
-    go zero p q h = refl
-    go (suc zero) p q h = refl
-    go (suc (suc zero)) p q h = refl
+    go : (n : ℕ) (p q : Bool) → n ≤ 2 → P (record { dE = n; dEp = p; dEq = q })
+    go zero p q h = skip p q
+    go (suc zero) p q h = weak p q
+    go (suc (suc zero)) p q h = strong p q
     go (suc (suc (suc n))) p q h = absurd (omega arith)
 
-known : (t s p q : Bool) → (cond {A = Decision} t (record { dE = cond s 2 1; dEp = p; dEq = q }) (record { dE = 0; dEp = false; dEq = false })) .dE ≤ 2
+pub case-filters : (d : Decision) (m t : ℕ) (l : Line) → d .dE ≤ 2
+    → lumaLine (valuesOf (caseOf d)) m t l ≡ lumaLine d m t l
+unfolding caseOf lumaLine
+case-filters d m t l =
+    by-case (λ (e : Decision). lumaLine (valuesOf (caseOf e)) m t l ≡ lumaLine e m t l)
+    (λ p q. refl)
+    (λ p q. refl)
+    (λ p q. refl)
+    d
+
+-- and the case of a decision keeps its dE
+pub case-keeps : (d : Decision) → d .dE ≤ 2 → valuesOf (caseOf d) .dE ≡ d .dE
+unfolding caseOf
+case-keeps = by-case (λ e. valuesOf (caseOf e) .dE ≡ e .dE) (λ p q. refl) (λ p q. refl) (λ p q. refl)
+
+known : (t s p q : Bool) → (cond t (record { dE = cond s 2 1; dEp = p; dEq = q }) (valuesOf Skip)) .dE ≤ 2
 known true true p q = omega arith
 known true false p q = omega arith
 known false s p q = omega arith

@@ -1,4 +1,6 @@
 pub mod Answer
-pub mod Facts
+pub mod Decided
+pub mod Filtered
+pub mod Numbers
 pub mod Partings
 pub mod Within

@@ -1,4 +1,4 @@
--- The definitions end in naturals, by `natOf`: nothing is lost by that, and samples up to m stay up to m.
+-- The definitions end in naturals, by `natOf`: nothing is lost by that, and samples up to the largest stay up to it.
 use Prim.Native.Nat.{ℕ, _*_, _-_, _≤_}
 use mathlib.Core.Path.{_≡_, sym, _∙_, ap, subst}
 use mathlib.Core.Bool.{Bool, true, false, cond}
@@ -10,80 +10,87 @@ use Rattle.ints.proofs.Laws.{naturals, times-pos, by-diff, clip-unit, clip-near
 use Rattle.lines.specs.declared.Line.{Line}
 use Rattle.lines.specs.Decision.{Decision}
 use Rattle.lines.specs.Luma.{near, strongLine, delta0, clip1, second, weakBy, weakLine, lumaLine}
-use Rattle.lines.proofs.Facts.{near-is}
+use Rattle.lines.proofs.Numbers.{near-is}
 
--- Clip1 gives an integer that is not negative, and at most m
-pub clip1-whole : (m : ℕ) (v : ℤ) → pos (clip1 m v) ≡ clip3 (pos 0) (pos m) v
+-- Clip1 gives an integer that is not negative, and at most the largest sample
+pub clip1-whole : (largest : ℕ) (v : ℤ) → pos (clip1 largest v) ≡ clip3 (pos 0) (pos largest) v
 unfolding clip1 natOf
-clip1-whole m = by-diff _ (λ a b. ap pos (ap natOf (clip-unit m a b)) ∙ sym (clip-unit m a b))
+clip1-whole largest = by-diff _ (λ a b. ap pos (ap natOf (clip-unit largest a b)) ∙ sym (clip-unit largest a b))
 
-pub clip1-within : (m : ℕ) (v : ℤ) → clip1 m v ≤ m
+pub clip1-within : (largest : ℕ) (v : ℤ) → clip1 largest v ≤ largest
 unfolding clip1 natOf
-clip1-within m = by-diff _ (λ a b. subst (λ (n : ℕ). n ≤ m) (sym (ap natOf (clip-unit m a b))) (omega arith))
+clip1-within largest =
+    by-diff _ (λ a b. subst (λ (n : ℕ). n ≤ largest) (sym (ap natOf (clip-unit largest a b))) (omega arith))
 
 -- and so does the strong filter's Clip3, of a natural
 pub near-whole : (t x n : ℕ) → pos (natOf (near (pos t) (pos x) (pos n))) ≡ near (pos t) (pos x) (pos n)
 unfolding near natOf
 near-whole t x n = simp times-pos (ap pos (ap natOf (clip-near x (2 * t) n)) ∙ sym (clip-near x (2 * t) n))
 
-near-within : (m t x n : ℕ) → x ≤ m → n ≤ m → natOf (near (pos t) (pos x) (pos n)) ≤ m
-near-within m t x n h k = rw near-is (omega arith)
+near-within : {largest x n : ℕ} (t : ℕ) → x ≤ largest → n ≤ largest
+    → natOf (near (pos t) (pos x) (pos n)) ≤ largest
+near-within t h k = rw near-is (omega arith)
 
-pub record Within (m : ℕ) (l : Line) : Type 0 where
-  pub p3≤ : l .p3 ≤ m
-  pub p2≤ : l .p2 ≤ m
-  pub p1≤ : l .p1 ≤ m
-  pub p0≤ : l .p0 ≤ m
-  pub q0≤ : l .q0 ≤ m
-  pub q1≤ : l .q1 ≤ m
-  pub q2≤ : l .q2 ≤ m
-  pub q3≤ : l .q3 ≤ m
+pub record Within (largest : ℕ) (l : Line) : Type 0 where
+  pub p3≤ : l .p3 ≤ largest
+  pub p2≤ : l .p2 ≤ largest
+  pub p1≤ : l .p1 ≤ largest
+  pub p0≤ : l .p0 ≤ largest
+  pub q0≤ : l .q0 ≤ largest
+  pub q1≤ : l .q1 ≤ largest
+  pub q2≤ : l .q2 ≤ largest
+  pub q3≤ : l .q3 ≤ largest
 
-pub strong-within : (m t : ℕ) (l : Line) → Within m l → Within m (strongLine t l)
+pub strong-within : {largest : ℕ} {l : Line} (t : ℕ) → Within largest l → Within largest (strongLine t l)
 unfolding strongLine
-strong-within m t l w =
+strong-within t w =
     record {
       p3≤ = w .p3≤;
-      p2≤ = simp naturals (near-within m t _ _ (w .p2≤) (omega arith));
-      p1≤ = simp naturals (near-within m t _ _ (w .p1≤) (omega arith));
-      p0≤ = simp naturals (near-within m t _ _ (w .p0≤) (omega arith));
-      q0≤ = simp naturals (near-within m t _ _ (w .q0≤) (omega arith));
-      q1≤ = simp naturals (near-within m t _ _ (w .q1≤) (omega arith));
-      q2≤ = simp naturals (near-within m t _ _ (w .q2≤) (omega arith));
+      p2≤ = simp naturals (near-within t (w .p2≤) (omega arith));
+      p1≤ = simp naturals (near-within t (w .p1≤) (omega arith));
+      p0≤ = simp naturals (near-within t (w .p0≤) (omega arith));
+      q0≤ = simp naturals (near-within t (w .q0≤) (omega arith));
+      q1≤ = simp naturals (near-within t (w .q1≤) (omega arith));
+      q2≤ = simp naturals (near-within t (w .q2≤) (omega arith));
       q3≤ = w .q3≤;
     }
 
-second-within : (m : ℕ) (half : ℤ) (on : Bool) (x2 x1 x0 : ℕ) (d : ℤ) → x1 ≤ m → second m half on x2 x1 x0 d ≤ m
+second-within : {largest x1 : ℕ} (half : ℤ) (on : Bool) (x2 x0 : ℕ) (d : ℤ) → x1 ≤ largest
+    → second largest half on x2 x1 x0 d ≤ largest
 unfolding second
-second-within m half true x2 x1 x0 d h = clip1-within m _
-second-within m half false x2 x1 x0 d h = h
+second-within half true x2 x0 d h = clip1-within _ _
+second-within half false x2 x0 d h = h
 
-weak-by-within : (m t : ℕ) (p q : Bool) (l : Line) (d : ℤ) → Within m l → Within m (weakBy m t p q l d)
+weak-by-within : {largest : ℕ} {l : Line} (t : ℕ) (p q : Bool) (d : ℤ) → Within largest l
+    → Within largest (weakBy largest t p q l d)
 unfolding weakBy
-weak-by-within m t p q l d w =
+weak-by-within t p q d w =
     record {
       p3≤ = w .p3≤;
       p2≤ = w .p2≤;
-      p1≤ = second-within m _ p _ _ _ d (w .p1≤);
-      p0≤ = clip1-within m _;
-      q0≤ = clip1-within m _;
-      q1≤ = second-within m _ q _ _ _ (neg d) (w .q1≤);
+      p1≤ = second-within _ p _ _ d (w .p1≤);
+      p0≤ = clip1-within _ _;
+      q0≤ = clip1-within _ _;
+      q1≤ = second-within _ q _ _ (neg d) (w .q1≤);
       q2≤ = w .q2≤;
       q3≤ = w .q3≤;
     }
 
-either-within : (m : ℕ) (t : Bool) (a b : Line) → Within m a → Within m b → Within m (cond t a b)
-either-within m true a b h k = h
-either-within m false a b h k = k
+either-within : {largest : ℕ} {a b : Line} (t : Bool) → Within largest a → Within largest b
+    → Within largest (cond t a b)
+either-within true h k = h
+either-within false h k = k
 
-pub weak-within : (m t : ℕ) (p q : Bool) (l : Line) → Within m l → Within m (weakLine m t p q l)
+pub weak-within : {largest : ℕ} {l : Line} (t : ℕ) (p q : Bool) → Within largest l
+    → Within largest (weakLine largest t p q l)
 unfolding weakLine
-weak-within m t p q l w =
+weak-within {largest} {l} t p q w =
     let d0 : ℤ = delta0 (pos (l .p1)) (pos (l .p0)) (pos (l .q0)) (pos (l .q1)) in
-    either-within m (ltb (abs d0) (t * 10)) _ l (weak-by-within m t p q l (clip3 (neg (pos t)) (pos t) d0) w) w
+    either-within (ltb (abs d0) (t * 10)) (weak-by-within t p q (clip3 (neg (pos t)) (pos t) d0) w) w
 
-pub luma-within : (d : Decision) (m t : ℕ) (l : Line) → Within m l → Within m (lumaLine d m t l)
+pub luma-within : {largest : ℕ} {l : Line} (d : Decision) (t : ℕ) → Within largest l
+    → Within largest (lumaLine d largest t l)
 unfolding lumaLine
-luma-within d m t l w =
-    either-within m (eqb (d .dE) 2) _ _ (strong-within m t l w)
-    (either-within m (eqb (d .dE) 1) _ l (weak-within m t (d .dEp) (d .dEq) l w) w)
+luma-within d t w =
+    either-within (eqb (d .dE) 2) (strong-within t w)
+    (either-within (eqb (d .dE) 1) (weak-within t (d .dEp) (d .dEq) w) w)

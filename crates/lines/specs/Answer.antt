@@ -1,4 +1,5 @@
--- The enum LumaDecision and the standard's dE, dEp and dEq: which values each case stands for, and which case a decision is.
+-- The enum LumaDecision and the standard's dE, dEp and dEq: which values each case stands for, and which case a
+-- decision is.
 use mathlib.Core.Bool.{true, false, cond}
 use lib.Dec.{eqb}
 use Rattle.lines.specs.declared.LumaDecision.{LumaDecision}

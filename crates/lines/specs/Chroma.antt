@@ -11,11 +11,12 @@ chromaDelta p1 p0 q0 q1 = pos 4 ⊠ (q0 ⊟ p0) ⊞ p1 ⊟ q1 ⊞ pos 4 >> 3
 
 -- Δ = Clip3(-tC, tC, ..), p0′ = Clip1C(p0 + Δ), q0′ = Clip1C(q0 - Δ)
 unfoldable pub chromaLine : ℕ → ℕ → ChromaLine → ChromaLine
-chromaLine max t l =
-    let delta : ℤ = clip3 (neg (pos t)) (pos t) (chromaDelta (pos (l .p1)) (pos (l .p0)) (pos (l .q0)) (pos (l .q1))) in
+chromaLine largest t l =
+    let delta : ℤ =
+    clip3 (neg (pos t)) (pos t) (chromaDelta (pos (l .p1)) (pos (l .p0)) (pos (l .q0)) (pos (l .q1))) in
     record {
       p1 = l .p1;
-      p0 = clip1 max (pos (l .p0) ⊞ delta);
-      q0 = clip1 max (pos (l .q0) ⊟ delta);
+      p0 = clip1 largest (pos (l .p0) ⊞ delta);
+      q0 = clip1 largest (pos (l .q0) ⊟ delta);
       q1 = l .q1;
     }

@@ -1,4 +1,5 @@
--- What the private functions compute, in naturals. A signed number is held with a bias, 65536 more. No public contract cites this module.
+-- What the private functions compute, in naturals. A signed number is held with a bias, 65536 more. No public contract
+-- cites this module.
 use Prim.Native.Nat.{ℕ, _+_, _*_, _-_, _/_, min, max}
 use mathlib.Core.Bool.{Bool, cond, _&&_}
 use lib.Dec.{ltb}
@@ -31,7 +32,12 @@ clipDeltaN t d = max (65536 - t) (min (65536 + t) d)
 
 -- Clip1(x + d)
 abbrev pub movedN : ℕ → ℕ → ℕ → ℕ
-movedN most x d = min most (x + d - 65536)
+movedN largest x d = min largest (x + d - 65536)
 
+-- Δp or Δq
+abbrev pub sideDeltaN : ℕ → ℕ → ℕ → ℕ → ℕ → ℕ
+sideDeltaN half x2 x1 x0 d = clipDeltaN half (((x2 + x0 + 1) / 2 + d + 65536 - x1) / 2)
+
+-- p1′ or q1′
 abbrev pub secondN : Bool → ℕ → ℕ → ℕ → ℕ → ℕ → ℕ → ℕ
-secondN on most half x2 x1 x0 d = cond on (movedN most x1 (clipDeltaN half (((x2 + x0 + 1) / 2 + d + 65536 - x1) / 2))) x1
+secondN on largest half x2 x1 x0 d = cond on (movedN largest x1 (sideDeltaN half x2 x1 x0 d)) x1

@@ -1,4 +1,5 @@
--- ITU-T H.265 clauses 8.7.2.5.3 and 8.7.2.5.6 at a general depth: the decision for a luma segment of four lines, from its lines 0 and 3.
+-- ITU-T H.265 clauses 8.7.2.5.3 and 8.7.2.5.6 at a general depth: the decision for a luma segment of four lines, from
+-- its lines 0 and 3.
 use Prim.Native.Nat.{ℕ, _+_, _*_, _/_, _^_}
 use mathlib.Core.Bool.{Bool, false, cond, _&&_}
 use lib.Dec.{ltb}

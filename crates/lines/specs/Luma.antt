@@ -1,5 +1,6 @@
 -- ITU-T H.265 clause 8.7.2.5.7 at a general depth: the filtering of one luma line.
--- A PCM or lossless side is filtered too and restored after the pass, where the clause sets nDp or nDq to 0 (docs/DIFFERENCES.md).
+-- A PCM or lossless side is filtered too and restored after the pass, where the clause sets nDp or nDq to 0
+-- (docs/DIFFERENCES.md).
 use Prim.Native.Nat.{ℕ, _*_}
 use mathlib.Core.Bool.{Bool, cond}
 use lib.Dec.{ltb, eqb}
@@ -8,9 +9,9 @@ use Rattle.ints.specs.Int.{_⊞_, _⊟_, neg, _⊠_, _>>_, clip3, abs, natOf}
 use Rattle.lines.specs.declared.Line.{Line}
 use Rattle.lines.specs.Decision.{Decision}
 
--- Clip1Y(v) = Clip3(0, (1 << BitDepthY) - 1, v), where `max` is the largest sample
+-- Clip1Y(v) = Clip3(0, (1 << BitDepthY) - 1, v), of the largest sample
 unfoldable pub clip1 : ℕ → ℤ → ℕ
-clip1 max v = natOf (clip3 (pos 0) (pos max) v)
+clip1 largest v = natOf (clip3 (pos 0) (pos largest) v)
 
 -- ---- dE 2: the strong filter
 
@@ -46,37 +47,39 @@ strongLine t l =
 unfoldable pub delta0 : ℤ → ℤ → ℤ → ℤ → ℤ
 delta0 p1 p0 q0 q1 = pos 9 ⊠ (q0 ⊟ p0) ⊟ pos 3 ⊠ (q1 ⊟ p1) ⊞ pos 8 >> 4
 
--- Δp = Clip3(-(tC >> 1), tC >> 1, (((p2 + p0 + 1) >> 1) - p1 + Δ) >> 1); Δq is the same of the q side's samples and of -Δ
+-- Δp = Clip3(-(tC >> 1), tC >> 1, (((p2 + p0 + 1) >> 1) - p1 + Δ) >> 1); Δq is the same of the q side's samples and
+-- of -Δ
 unfoldable pub sideDelta : ℤ → ℤ → ℤ → ℤ → ℤ → ℤ
 sideDelta half x2 x1 x0 delta = clip3 (neg half) half ((x2 ⊞ x0 ⊞ pos 1 >> 1) ⊟ x1 ⊞ delta >> 1)
 
 -- p1′ (or q1′): moved by Δp (Δq) where dEp (dEq) is 1
 unfoldable pub second : ℕ → ℤ → Bool → ℕ → ℕ → ℕ → ℤ → ℕ
-second max half on x2 x1 x0 delta = cond on (clip1 max (pos x1 ⊞ sideDelta half (pos x2) (pos x1) (pos x0) delta)) x1
+second largest half on x2 x1 x0 delta =
+    cond on (clip1 largest (pos x1 ⊞ sideDelta half (pos x2) (pos x1) (pos x0) delta)) x1
 
 -- the line moved by the clipped Δ
 unfoldable pub weakBy : ℕ → ℕ → Bool → Bool → Line → ℤ → Line
-weakBy max t dEp dEq l delta =
+weakBy largest t dEp dEq l delta =
     record {
       p3 = l .p3;
       p2 = l .p2;
-      p1 = second max (pos t >> 1) dEp (l .p2) (l .p1) (l .p0) delta;
-      p0 = clip1 max (pos (l .p0) ⊞ delta);
-      q0 = clip1 max (pos (l .q0) ⊟ delta);
-      q1 = second max (pos t >> 1) dEq (l .q2) (l .q1) (l .q0) (neg delta);
+      p1 = second largest (pos t >> 1) dEp (l .p2) (l .p1) (l .p0) delta;
+      p0 = clip1 largest (pos (l .p0) ⊞ delta);
+      q0 = clip1 largest (pos (l .q0) ⊟ delta);
+      q1 = second largest (pos t >> 1) dEq (l .q2) (l .q1) (l .q0) (neg delta);
       q2 = l .q2;
       q3 = l .q3;
     }
 
 -- where Abs(Δ) < tC * 10: Δ = Clip3(-tC, tC, Δ), and the samples next to the edge move
 unfoldable pub weakLine : ℕ → ℕ → Bool → Bool → Line → Line
-weakLine max t dEp dEq l =
+weakLine largest t dEp dEq l =
     let d0 : ℤ = delta0 (pos (l .p1)) (pos (l .p0)) (pos (l .q0)) (pos (l .q1)) in
-    cond (ltb (abs d0) (t * 10)) (weakBy max t dEp dEq l (clip3 (neg (pos t)) (pos t) d0)) l
+    cond (ltb (abs d0) (t * 10)) (weakBy largest t dEp dEq l (clip3 (neg (pos t)) (pos t) d0)) l
 
 -- ---- one line of a segment, by its decision
 unfoldable pub lumaLine : Decision → ℕ → ℕ → Line → Line
-lumaLine d max t l =
+lumaLine d largest t l =
     cond (eqb (d .dE) 2) (strongLine t l)
-    (cond (eqb (d .dE) 1) (weakLine max t (d .dEp) (d .dEq) l)
+    (cond (eqb (d .dE) 1) (weakLine largest t (d .dEp) (d .dEq) l)
     l)

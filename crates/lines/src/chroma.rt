@@ -5,17 +5,17 @@ use crate::delta::moved;
 ghost use mathlib.Core.Path.{_≡_};
 ghost use Rattle.lines.specs.Chroma.{chromaLine};
 
-// One chroma line; `most` is the largest sample.
-pub fn chroma_line(most: u16, tc: u16, l: ChromaLine) -> ChromaLine
-    ensures { λ r. ⌜ r ≡ chromaLine most tc l ⌝ }
+// One chroma line; `largest` is the depth's largest sample.
+pub fn chroma_line(largest: u16, tc: u16, l: ChromaLine) -> ChromaLine
+    ensures { λ r. ⌜ r ≡ chromaLine largest tc l ⌝ }
 {
     let d0 = (4 * (l.q0 as u32) + (l.p1 as u32) + 524292 - (4 * (l.p0 as u32) + (l.q1 as u32)))
         >> 3;
     let d = clip_delta(tc, d0);
     ChromaLine {
         p1: l.p1,
-        p0: moved(most, l.p0, d),
-        q0: moved(most, l.q0, 131072 - d),
+        p0: moved(largest, l.p0, d),
+        q0: moved(largest, l.q0, 131072 - d),
         q1: l.q1,
     }
 }

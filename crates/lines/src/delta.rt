@@ -15,10 +15,10 @@ pub(crate) fn clip_delta(t: u16, d: u32) -> u32
 }
 
 // x + d, clipped to the samples
-pub(crate) fn moved(most: u16, x: u16, d: u32) -> u16
+pub(crate) fn moved(largest: u16, x: u16, d: u32) -> u16
     requires { ⌜ d ≤ 131072 ⌝ }
-    ensures { λ r. ⌜ r ≡ movedN most x d ⌝ }
+    ensures { λ r. ⌜ r ≡ movedN largest x d ⌝ }
 {
-    let s = at_most(65536 + (most as u32), (x as u32) + d);
+    let s = at_most(65536 + (largest as u32), (x as u32) + d);
     if s < 65536 { 0 } else { (s - 65536) as u16 }
 }

@@ -1,7 +1,7 @@
 // The decision and the filters of one line of a luma or chroma segment (ITU-T H.265, 8.7.2.5).
 // A signed number of the standard is held with a bias, as a u32 that is 65536 more; all arithmetic is unsigned.
-// What a public function ensures is the standard's definition, over the integers. What a private one ensures is an expression of
-// naturals, which the prover checks by itself; the proofs of the public ones carry the one to the other.
+// What a public function ensures is the standard's definition, over the integers. What a private one ensures is an
+// expression of naturals, which the prover checks by itself; the proofs of the public ones carry the one to the other.
 mod chroma;
 mod decision;
 mod delta;
@@ -44,13 +44,13 @@ pub struct ChromaLine {
     pub q1: u16,
 }
 
-// 8.7.2.5.7: one luma line, as the segment's decision says; `most` is the largest sample.
-pub fn luma_line(d: LumaDecision, most: u16, tc: u16, l: Line) -> Line
-    ensures { λ r. ⌜ r ≡ lumaLine (valuesOf d) most tc l ⌝ }
+// 8.7.2.5.7: one luma line, as the segment's decision says; `largest` is the depth's largest sample.
+pub fn luma_line(d: LumaDecision, largest: u16, tc: u16, l: Line) -> Line
+    ensures { λ r. ⌜ r ≡ lumaLine (valuesOf d) largest tc l ⌝ }
 {
     match d {
         LumaDecision::Skip => l,
         LumaDecision::Strong => strong_line(tc, l),
-        LumaDecision::Weak { do_p1, do_q1 } => weak_line(most, tc, do_p1, do_q1, l),
+        LumaDecision::Weak { do_p1, do_q1 } => weak_line(largest, tc, do_p1, do_q1, l),
     }
 }

@@ -1,6 +1,7 @@
-// Limits. Each is one choice of two numbers, which takes no jump, so that four lines side by side can be filtered as one.
+// Limits. Each is one choice of two numbers, which takes no jump, so that four lines side by side can be filtered as
+// one.
 ghost use mathlib.Core.Path.{_≡_};
-ghost use Prim.Native.Nat.{_+_, _-_, _*_, min, max};
+ghost use Prim.Native.Nat.{_+_, _-_, min, max};
 
 pub(crate) fn at_most(limit: u32, v: u32) -> u32
     ensures { λ r. ⌜ r ≡ min limit v ⌝ }

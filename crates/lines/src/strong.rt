@@ -18,7 +18,8 @@ fn clip_near(tc: u16, x: u16, v: u32) -> u16
     not_below(lowered(x, d), not_above(raised(x, d), v as u16))
 }
 
-// The first, second and third sample of a side: a mean of the samples around it, held near the sample x that it replaces.
+// The first, second and third sample of a side: a mean of the samples around it, held near the sample x that it
+// replaces.
 fn strong0(tc: u16, x: u16, a: u16, b: u16, c: u16, d: u16, e: u16) -> u16
     ensures { λ r. ⌜ r ≡ nearN tc x ((a + 2 * b + 2 * c + 2 * d + e + 4) / 8) ⌝ }
 {

@@ -14,21 +14,21 @@ fn weak_delta(p1: u16, p0: u16, q0: u16, q1: u16) -> u32
     (9 * (q0 as u32) + 3 * (p1 as u32) + 1048584 - (9 * (p0 as u32) + 3 * (q1 as u32))) >> 4
 }
 
-// The second sample of a side, which moves where `on` says so. It is made in either case: a choice of two samples takes no jump, so that
-// four lines side by side can be filtered as one.
-fn second_sample(on: bool, most: u16, half: u16, x2: u16, x1: u16, x0: u16, d: u32) -> u16
+// The second sample of a side, which moves where `on` says so. It is made in either case: a choice of two samples
+// takes no jump, so that four lines side by side can be filtered as one.
+fn second_sample(on: bool, largest: u16, half: u16, x2: u16, x1: u16, x0: u16, d: u32) -> u16
     requires { ⌜ d ≤ 131072 ⌝ }
-    ensures { λ r. ⌜ r ≡ secondN on most half x2 x1 x0 d ⌝ }
+    ensures { λ r. ⌜ r ≡ secondN on largest half x2 x1 x0 d ⌝ }
 {
     let mean = ((x2 as u32) + (x0 as u32) + 1) >> 1;
     let e = clip_delta(half, (mean + d + 65536 - (x1 as u32)) >> 1);
-    let made = moved(most, x1, e);
+    let made = moved(largest, x1, e);
     if on { made } else { x1 }
 }
 
 // One line. The moved line is made before the step's size is known, for the same reason.
-pub fn weak_line(most: u16, tc: u16, p: bool, q: bool, l: Line) -> Line
-    ensures { λ r. ⌜ r ≡ weakLine most tc p q l ⌝ }
+pub fn weak_line(largest: u16, tc: u16, p: bool, q: bool, l: Line) -> Line
+    ensures { λ r. ⌜ r ≡ weakLine largest tc p q l ⌝ }
 {
     let d0 = weak_delta(l.p1, l.p0, l.q0, l.q1);
     let d = clip_delta(tc, d0);
@@ -37,10 +37,10 @@ pub fn weak_line(most: u16, tc: u16, p: bool, q: bool, l: Line) -> Line
     let made = Line {
         p3: l.p3,
         p2: l.p2,
-        p1: second_sample(p, most, half, l.p2, l.p1, l.p0, d),
-        p0: moved(most, l.p0, d),
-        q0: moved(most, l.q0, e),
-        q1: second_sample(q, most, half, l.q2, l.q1, l.q0, e),
+        p1: second_sample(p, largest, half, l.p2, l.p1, l.p0, d),
+        p0: moved(largest, l.p0, d),
+        q0: moved(largest, l.q0, e),
+        q1: second_sample(q, largest, half, l.q2, l.q1, l.q0, e),
         q2: l.q2,
         q3: l.q3,
     };

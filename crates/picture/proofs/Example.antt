@@ -7,9 +7,10 @@ use lib.IntN.{ℤ, pos}
 use lib.ListN.{replicate, set}
 use Rattle.ints.specs.Int.{_⊖_, neg, lt}
 use Rattle.picture.specs.Accepted.{Accepted}
-use Rattle.picture.specs.Ledger.{Verdict, verdict}
+use Rattle.picture.specs.Causes.{verdict}
+use Rattle.picture.specs.Ledger.{Verdict}
 use Rattle.picture.specs.Picture.{Picture, Planes, Settings}
-use Rattle.picture.proofs.Ledger.{accepted-by}
+use Rattle.picture.proofs.Accepted.{accepted-by}
 
 -- ---- an accepted picture, 8 by 8, of luma alone
 
@@ -108,7 +109,8 @@ record Case : Type 0 where
   answer : Verdict
 
 abbrev case : Picture → Planes → ℕ → ℕ → Case
-case asked outputs number place = record { asked = asked; outputs = outputs; answer = record { number = number; place = place } }
+case asked outputs number place =
+    record { asked = asked; outputs = outputs; answer = record { number = number; place = place } }
 
 abbrev lent : Planes
 lent = grey (replicate 64 7)
@@ -133,7 +135,8 @@ cases =
     ∷ case (celled (set (cells 4) (8 * 2) 63) (showing (grey (set flat 5 256)) base)) lent 9 2
     -- the place runs on: row 1 after one column; sample 3 of Cr after 64 of Y and 16 of Cb
     ∷ case (tiled one (0 ∷ 1 ∷ []) base) lent 8 2
-    ∷ case (under (settings 1 8 4 (pos 0)) (showing (planes flat small (set small 3 256)) base)) (planes flat small small) 10 83
+    ∷ case (under (settings 1 8 4 (pos 0)) (showing (planes flat small (set small 3 256)) base))
+    (planes flat small small) 10 83
     -- chroma of 4:2:2 and of 4:4:4
     ∷ case (under (settings 2 8 4 (pos 0)) (showing (planes flat tall tall) base)) (planes flat tall tall) 0 0
     ∷ case (under (settings 3 8 4 (pos 0)) (showing (planes flat flat flat) base)) (planes flat flat flat) 0 0

@@ -1,131 +1,209 @@
--- A picture is accepted exactly where no cause of the refusal ledger applies.
-use Prim.Native.Nat.{ℕ, zero, suc, _+_, _-_, _*_, _≤_, _<_}
-use mathlib.Core.Path.{_≡_, sym, _∙_}
-use mathlib.Core.Bool.{false}
+-- The laws of refusal ledgers, for any entries: the first bad thing that a cause looks at, the place of a cause, and
+-- the first entry that applies.
+use Prim.Native.Nat.{ℕ, zero, suc, _+_, _-_, _≤_, _<_}
+use mathlib.Core.Path.{_≡_, refl, sym, ap, _∙_}
+use mathlib.Core.Bool.{Bool, true, false, cond, not}
 use mathlib.Core.List.{List, [], _∷_, _++_}
+use mathlib.Core.Logic.{_⊎_, inl, inr}
 use native.Mathlib.Omega.{arith}
-use borrow.Author.Tests.{ltb-false, leb-false, lt-leb, le-ltb}
-use lib.Dec.{ltb}
-use lib.ListN.{length}
-use lib.IntN.{pos}
-use Rattle.ints.specs.Int.{_⊖_, neg, lt}
-use Rattle.ints.proofs.Laws.{diffs, lt-diff, pos-lt, le-lt}
-use Rattle.picture.specs.Accepted.{SettingsOk, PlanesOk, SliceOk, StartsOk, CellOk, Accepted}
-use Rattle.picture.specs.Ledger.{acceptance, andThen, badSize, badFormat, badDepths, badCtb, badOffset, badPlanes, badLists, badSlice, badStart, startsCause, badCell, samplesCause, cause2, cause3, cause4, cause5, cause7, cause9, cause10, causes, verdict, anyOf}
-use Rattle.picture.specs.Picture.{Picture, Planes, Settings, ctbSize}
-use Rattle.picture.specs.Scale.{Component, Y, Cb, Cr}
-use Rattle.picture.specs.Slice.{sliceByte, sliceCount}
-use Rattle.picture.proofs.Causes.{Good, NoneOf, eq-not, good-in, good-out, none-in, none-out, not-eq, once-in, once-out, then-in, then-out, to-fact, to-test}
+use borrow.Author.Tests.{ltb-false, leb-false, eqb-true, lt-ltb, le-ltb, lt-leb, eq-eqb, not-false}
+use lib.Dec.{ltb, eqb}
+use Rattle.ints.proofs.Laws.{either, lt-false, le-lt}
+use Rattle.picture.specs.Ledger.{
+  Verdict,
+  acceptance,
+  Cause,
+  Entry,
+  entry,
+  firstBad,
+  placeOf,
+  firstOf,
+  anyOf,
+  once,
+  andThen,
+}
 
--- ---- the parts of a picture
+-- ---- tests that fail, and the facts that they leave
 
-settings-out : (t : Settings) → Good (cause2 t) → Good (cause3 t) → Good (cause4 t) → Good (cause5 t) → SettingsOk t
-settings-out t g2 g3 g4 g5 =
-    let format = once-out (badFormat t) g2 in
-    let depths = once-out (badDepths t) g3 in
-    let ctb = once-out (badCtb t) g4 in
-    let offsets = once-out (badOffset (t .cb-offset) ++ badOffset (t .cr-offset)) g5 in
-    search to-fact depth 1
+pub eq-not : (m n : ℕ) → m ≡ n → not (eqb m n) ≡ false
+eq-not m n e = rw (eq-eqb m n e)
 
-planes-in : (p : Picture) (planes : Planes) → PlanesOk p planes → NoneOf (badPlanes p planes)
-planes-in p planes ok = (eq-not _ _ (ok Y), (eq-not _ _ (ok Cb), (eq-not _ _ (ok Cr), tt)))
+pub not-eq : (m n : ℕ) → not (eqb m n) ≡ false → m ≡ n
+not-eq m n e = eqb-true m n (not-false (eqb m n) e)
 
--- an empty slice list has no record to be bad, and the record that it stands for is in range
-slice-out : (l : List ℕ) → Good (cause7 l) → (n : ℕ) → n < sliceCount l → SliceOk (sliceByte l n)
-slice-out [] h n hn = omega arith
-slice-out (x ∷ r) h n hn = omega (arith, ltb-false, none-out (badSlice (sliceByte (x ∷ r) n)) (h n hn))
+-- for `search`: from the failed test to the fact, and from the fact to the failed test
+pub ruleset to-fact = (ltb-false, leb-false, not-eq, lt-false)
 
-slice-in : (l : List ℕ) → ((n : ℕ) → n < sliceCount l → SliceOk (sliceByte l n)) → Good (cause7 l)
-slice-in [] h n hn = absurd (omega arith)
-slice-in (x ∷ r) h n hn = none-in (badSlice (sliceByte (x ∷ r) n)) (omega (arith, le-ltb, h n hn))
+pub ruleset to-test = (le-ltb, lt-leb, eq-not, le-lt)
 
-module _ (l : List ℕ) (many size total : ℕ) where
-  starts-out : 0 < length l → length l ≤ many → Good (startsCause l size total) → StartsOk l many size total
-  starts-out one few h = record {
-    one = one;
-    few = few;
-    zeroth = not-eq _ _ (none-out (badStart l size total 0) (h 0 one) .0);
-    rising = λ k hk. leb-false _ _ (none-out (badStart l size total (suc k)) (h (suc k) hk) .0);
-    below = λ k hk. leb-false _ _ (none-out (badStart l size total k) (h k hk) .1 .0);
-  }
+abbrev pub NoneOf : List Bool → Type 0
+NoneOf [] = Unit {0}
+NoneOf (b ∷ r) = (b ≡ false) × NoneOf r
 
-  starts-in : StartsOk l many size total → Good (startsCause l size total)
-  starts-in ok zero hk = none-in (badStart l size total 0) (omega (arith, eq-not, lt-leb, ok .below 0 hk))
-  starts-in ok (suc k) hk = none-in (badStart l size total (suc k)) (omega (arith, lt-leb, ok .rising k hk, ok .below (suc k) hk))
+pub none-out : (tests : List Bool) → anyOf tests ≡ false → NoneOf tests
+none-out [] e = tt
+none-out (true ∷ r) e = absurd (let z : _≡_ {A = ℕ} 0 1 = cc in omega arith)
+none-out (false ∷ r) e = (refl, none-out r e)
 
-cell-out : (depth : ℕ) (slices : List ℕ) (byte : ℕ → ℕ) → anyOf (badCell depth slices byte) ≡ false → CellOk depth slices byte
-cell-out depth slices byte e =
-    let h = none-out (badCell depth slices byte) e in
-    search to-fact depth 1
+pub none-in : (tests : List Bool) → NoneOf tests → anyOf tests ≡ false
+none-in [] h = refl
+none-in (b ∷ r) h = rw (h .0) (none-in r (h .1))
 
-cell-in : (depth : ℕ) (slices : List ℕ) (byte : ℕ → ℕ) → CellOk depth slices byte → anyOf (badCell depth slices byte) ≡ false
-cell-in depth slices byte ok = none-in (badCell depth slices byte) (search to-test depth 1)
+-- tests of two lists
+pub none-join : (a b : List Bool) → NoneOf a → NoneOf b → NoneOf (a ++ b)
+none-join [] b h k = k
+none-join (x ∷ r) b h k = (h .0, none-join r b (h .1) k)
 
-samples-out : (p : Picture) → Good (cause10 p) → (c : Component) → Good (samplesCause p c)
-samples-out p h =
-    let (luma, chroma) = then-out (samplesCause p Y) (andThen (samplesCause p Cb) (samplesCause p Cr)) h in
-    let (blue, red) = then-out (samplesCause p Cb) (samplesCause p Cr) chroma in
-    elim [ Y ↦ luma | Cb ↦ blue | Cr ↦ red ]
+pub none-part : (a b : List Bool) → NoneOf (a ++ b) → NoneOf a × NoneOf b
+none-part [] b h = (tt, h)
+none-part (x ∷ r) b h = let (l, k) = none-part r b (h .1) in ((h .0, l), k)
 
-samples-in : (p : Picture) → ((c : Component) → Good (samplesCause p c)) → Good (cause10 p)
-samples-in p h =
-    then-in (samplesCause p Y) (andThen (samplesCause p Cb) (samplesCause p Cr)) (h Y) (then-in (samplesCause p Cb) (samplesCause p Cr) (h Cb) (h Cr))
+-- ---- the first bad entry of n from k on
 
--- the two tests of a QP byte, and its range, on naturals
-pub qp-low-test : (byte k : ℕ) → lt (byte ⊖ 64) (neg (pos k)) ≡ ltb (byte + k) 64
-qp-low-test byte k = simp (diffs, lt-diff)
+-- where entry k + i stands before it, entry k is good
+before : (t : Bool) (k r i : ℕ) → k + i < cond t k r → (t ≡ false) × (k + i < r)
+before true k r i h = absurd (omega arith)
+before false k r i h = (refl, h)
 
-pub qp-high-test : (byte : ℕ) → lt (pos 51) (byte ⊖ 64) ≡ ltb 115 byte
-qp-high-test byte = pos-lt 51 byte 64
+module _ (bad : ℕ → Bool) where
+  -- every entry before it is good
+  pub first-good : (k n i : ℕ) → k + i < firstBad bad k n → bad (k + i) ≡ false
+  first-good k zero i h = absurd (omega arith)
+  first-good k (suc n) zero h = ap bad (omega arith) ∙ before (bad k) k (firstBad bad (suc k) n) 0 h .0
+  first-good k (suc n) (suc i) h =
+      ap bad (omega arith)
+      ∙ first-good (suc k) n i (omega (arith, before (bad k) k (firstBad bad (suc k) n) (suc i) h .1))
 
-pub qp-range : {depth : ℕ} {slices : List ℕ} {byte : ℕ → ℕ} → CellOk depth slices byte → (64 ≤ byte 0 + 6 * (depth - 8)) × (byte 0 ≤ 115)
-qp-range {depth} {slices} {byte} ok = (
-  ltb-false _ _ (sym (qp-low-test (byte 0) (6 * (depth - 8))) ∙ le-lt _ _ (ok .qp-low)),
-  ltb-false _ _ (sym (qp-high-test (byte 0)) ∙ le-lt _ _ (ok .qp-high)),
-)
+  -- it is bad where it is not the end
+  pub first-bad : (k n : ℕ) → firstBad bad k n < k + n → bad (firstBad bad k n) ≡ true
+  first-bad k zero h = absurd (omega arith)
+  first-bad k (suc n) h = go (bad k) refl (first-bad (suc k) n) h
+    where
+      go : (t : Bool) → bad k ≡ t → (firstBad bad (suc k) n < suc k + n → bad (firstBad bad (suc k) n) ≡ true)
+          → cond t k (firstBad bad (suc k) n) < k + suc n → bad (cond t k (firstBad bad (suc k) n)) ≡ true
+      go true e ih h = e
+      go false e ih h = ih (omega arith)
 
--- ---- a picture that no cause applies to is accepted
+  -- it is the end where none is bad
+  pub first-from : (k n : ℕ) → ((i : ℕ) → i < n → bad (k + i) ≡ false) → firstBad bad k n ≡ k + n
+  first-from k zero h = omega arith
+  first-from k (suc n) h =
+      let good : bad k ≡ false = ap bad (omega arith) ∙ h 0 (omega arith) in
+      rw good (first-from (suc k) n (λ i hi. ap bad (omega arith) ∙ h (suc i) (omega arith)) ∙ omega arith)
 
-pub accepted-by : (p : Picture) (outputs : Planes) → verdict p outputs ≡ acceptance → Accepted p outputs
-unfolding verdict
-accepted-by p outputs e =
-    let (g1, (g2, (g3, (g4, (g5, (g6, (g7, (g8, (g9, (g10, _)))))))))) = good-out 0 (causes p outputs) e in
-    let t : Settings = p .settings in
-    let sizes = once-out (badSize (p .width) ++ badSize (p .height)) g1 in
-    let lengths = once-out (badPlanes p (p .originals) ++ (badPlanes p outputs ++ badLists p)) g6 in
-    let (columns, rows) = then-out (startsCause (p .columns) (ctbSize t) (p .width)) (startsCause (p .rows) (ctbSize t) (p .height)) g8 in
-    record {
-      width = search to-fact depth 1;
-      height = search to-fact depth 1;
-      settings = settings-out t g2 g3 g4 g5;
-      originals = elim [ Y ↦ search to-fact depth 1 | Cb ↦ search to-fact depth 1 | Cr ↦ search to-fact depth 1 ];
-      outputs-long = elim [ Y ↦ search to-fact depth 1 | Cb ↦ search to-fact depth 1 | Cr ↦ search to-fact depth 1 ];
-      cells-long = search to-fact depth 1;
-      slices = record { fours = search to-fact depth 1; most = search to-fact depth 1; records = slice-out (p .slices) g7 };
-      columns = starts-out (p .columns) 20 (ctbSize t) (p .width) (search to-fact depth 1) (search to-fact depth 1) columns;
-      rows = starts-out (p .rows) 22 (ctbSize t) (p .height) (search to-fact depth 1) (search to-fact depth 1) rows;
-      cells = λ n h. cell-out (t .luma-depth) (p .slices) _ (g9 n h);
-      samples = λ c k h. ltb-false _ _ (samples-out p g10 c k h);
-    }
+  -- it is the bad entry that only good ones precede
+  pub first-at : (k n i : ℕ) → i < n → ((j : ℕ) → j < i → bad (k + j) ≡ false) → bad (k + i) ≡ true
+      → firstBad bad k n ≡ k + i
+  first-at k zero i hi h b = absurd (omega arith)
+  first-at k (suc n) zero hi h b =
+      let here : bad k ≡ true = ap bad (omega arith) ∙ b in
+      rw here (omega arith)
+  first-at k (suc n) (suc i) hi h b =
+      let good : bad k ≡ false = ap bad (omega arith) ∙ h 0 (omega arith) in
+      let next =
+      first-at (suc k) n i (omega arith) (λ j hj. ap bad (omega arith) ∙ h (suc j) (omega arith))
+      (ap bad (omega arith) ∙ b) in
+      rw good (next ∙ omega arith)
 
--- ---- and none applies to an accepted one
+-- ---- the place of a cause
 
-pub accepted-is : (p : Picture) (outputs : Planes) → Accepted p outputs → verdict p outputs ≡ acceptance
-unfolding verdict
-accepted-is p outputs ok =
-    let t : Settings = p .settings in
-    let own = planes-in p (p .originals) (ok .originals) in
-    let lent = planes-in p outputs (ok .outputs-long) in
-    let columns = starts-in (p .columns) 20 (ctbSize t) (p .width) (ok .columns) in
-    let rows = starts-in (p .rows) 22 (ctbSize t) (p .height) (ok .rows) in
-    let g1 = once-in (badSize (p .width) ++ badSize (p .height)) (search to-test depth 1) in
-    let g2 = once-in (badFormat t) (search to-test depth 1) in
-    let g3 = once-in (badDepths t) (search to-test depth 1) in
-    let g4 = once-in (badCtb t) (search to-test depth 1) in
-    let g5 = once-in (badOffset (t .cb-offset) ++ badOffset (t .cr-offset)) (search to-test depth 1) in
-    let g6 = once-in (badPlanes p (p .originals) ++ (badPlanes p outputs ++ badLists p)) (search to-test depth 1) in
-    let g7 = slice-in (p .slices) (ok .slices .records) in
-    let g8 = then-in (startsCause (p .columns) (ctbSize t) (p .width)) (startsCause (p .rows) (ctbSize t) (p .height)) columns rows in
-    let g9 : Good (cause9 p) = λ n h. cell-in (t .luma-depth) (p .slices) _ (ok .cells n h) in
-    let g10 = samples-in p (λ c k h. le-ltb _ _ (ok .samples c k h)) in
-    good-in 1 (causes p outputs) (g1, (g2, (g3, (g4, (g5, (g6, (g7, (g8, (g9, (g10, tt))))))))))
+-- a cause that does not apply
+abbrev pub Good : Cause → Type 0
+Good c = (k : ℕ) → k < c .count → c .bad k ≡ false
+
+module _ (c : Cause) where
+  pub place-good : (i : ℕ) → i < placeOf c → c .bad i ≡ false
+  place-good i h = ap (c .bad) (omega arith) ∙ first-good (c .bad) 0 (c .count) i (omega arith)
+
+  pub place-bad : placeOf c < c .count → c .bad (placeOf c) ≡ true
+  place-bad h = first-bad (c .bad) 0 (c .count) (omega arith)
+
+  pub place-end : Good c → placeOf c ≡ c .count
+  place-end h = first-from (c .bad) 0 (c .count) (λ i hi. ap (c .bad) (omega arith) ∙ h i hi) ∙ omega arith
+
+  pub place-at : (i : ℕ) → i < c .count → ((j : ℕ) → j < i → c .bad j ≡ false) → c .bad i ≡ true → placeOf c ≡ i
+  place-at i hi h b =
+      first-at (c .bad) 0 (c .count) i hi (λ j hj. ap (c .bad) (omega arith) ∙ h j hj) (ap (c .bad) (omega arith) ∙ b)
+      ∙ omega arith
+
+  -- a cause that does not apply is passed over, and one that applies is returned
+  pub passed : (n : ℕ) (r : List Entry) → Good c → firstOf (entry n c ∷ r) ≡ firstOf r
+  passed n r h = rw (le-ltb (placeOf c) (c .count) (omega (arith, place-end h)))
+
+  pub returned : (n : ℕ) (r : List Entry) → placeOf c < c .count
+      → firstOf (entry n c ∷ r) ≡ record { number = n; place = placeOf c }
+  returned n r h = rw (lt-ltb (placeOf c) (c .count) h)
+
+-- a cause of place 0
+pub once-in : (tests : List Bool) → NoneOf tests → Good (once tests)
+once-in tests h k hk = none-in tests h
+
+pub once-out : (tests : List Bool) → Good (once tests) → NoneOf tests
+once-out tests h = none-out tests (h 0 (omega arith))
+
+-- two causes, the entries of one after those of the other
+module _ (c d : Cause) where
+  then-here : (k : ℕ) → k < c .count → andThen c d .bad k ≡ c .bad k
+  then-here k h = rw (lt-ltb k (c .count) h)
+
+  then-past : (k : ℕ) → andThen c d .bad (c .count + k) ≡ d .bad k
+  then-past k = rw (le-ltb (c .count + k) (c .count) (omega arith)) (ap (d .bad) (omega arith))
+
+  then-upto : Good c → (n : ℕ) → ((k : ℕ) → k < n → d .bad k ≡ false) → (k : ℕ) → k < c .count + n
+      → andThen c d .bad k ≡ false
+  then-upto hc n hd k hk = go (either k (c .count))
+    where
+      go : (k < c .count) ⊎ (c .count ≤ k) → andThen c d .bad k ≡ false
+      go (inl l) = then-here k l ∙ hc k l
+      go (inr l) = ap (andThen c d .bad) (omega arith) ∙ then-past (k - c .count) ∙ hd (k - c .count) (omega arith)
+
+  pub then-in : Good c → Good d → Good (andThen c d)
+  then-in hc hd = then-upto hc (d .count) hd
+
+  pub then-out : Good (andThen c d) → Good c × Good d
+  then-out h =
+      (λ k hk. sym (then-here k hk) ∙ h k (omega arith), λ k hk. sym (then-past k) ∙ h (c .count + k) (omega arith))
+
+  -- their place is the first's where that applies; else the second's, numbered on
+  pub then-first : placeOf c < c .count → placeOf (andThen c d) ≡ placeOf c
+  then-first h =
+      place-at (andThen c d) (placeOf c) (omega arith) (λ j hj. then-here j (omega arith) ∙ place-good c j hj)
+      (then-here (placeOf c) h ∙ place-bad c h)
+
+  pub then-second : Good c → placeOf (andThen c d) ≡ c .count + placeOf d
+  then-second hc = go (either (placeOf d) (d .count))
+    where
+      go : (placeOf d < d .count) ⊎ (d .count ≤ placeOf d) → placeOf (andThen c d) ≡ c .count + placeOf d
+      go (inl l) =
+          place-at (andThen c d) (c .count + placeOf d) (omega arith) (then-upto hc (placeOf d) (place-good d))
+          (then-past (placeOf d) ∙ place-bad d l)
+      go (inr l) =
+          let hd : Good d = λ k hk. place-good d k (omega arith) in
+          place-end (andThen c d) (then-in hc hd) ∙ omega (arith, place-end d hd)
+
+-- ---- a list of entries
+
+abbrev pub AllGood : List Entry → Type 0
+AllGood [] = Unit {0}
+AllGood (e ∷ r) = Good (e .cause) × AllGood r
+
+-- no entry has the number of acceptance
+abbrev pub AllNumbered : List Entry → Type 0
+AllNumbered [] = Unit {0}
+AllNumbered (e ∷ r) = (0 < e .number) × AllNumbered r
+
+pub good-in : (l : List Entry) → AllGood l → firstOf l ≡ acceptance
+good-in [] h = refl
+good-in (e ∷ r) h = passed (e .cause) (e .number) r (h .0) ∙ good-in r (h .1)
+
+skipped : (t : Bool) (n p : ℕ) (rest : Verdict) → 0 < n → cond t (record { number = n; place = p }) rest ≡ acceptance
+    → (t ≡ false) × (rest ≡ acceptance)
+skipped true n p rest h e = absurd (omega (arith, ap (λ (v : Verdict). v .number) e))
+skipped false n p rest h e = (refl, e)
+
+pub good-out : (l : List Entry) → AllNumbered l → firstOf l ≡ acceptance → AllGood l
+good-out [] h e = tt
+good-out (d ∷ r) h e =
+    let c = d .cause in
+    let (end, rest) = skipped (ltb (placeOf c) (c .count)) (d .number) (placeOf c) (firstOf r) (h .0) e in
+    (λ k hk. place-good c k (omega (arith, ltb-false (placeOf c) (c .count) end)), good-out r (h .1) rest)

@@ -1,4 +1,6 @@
-pub mod Causes
+pub mod Accepted
 pub mod Example
+pub mod Index
 pub mod Ledger
 pub mod Records
+pub mod Scale

@@ -1,5 +1,5 @@
--- The pictures that are accepted: the ranges and the lengths of document 01, 'What a sheet consists of', as one readable predicate.
--- proofs/Ledger.antt shows that it holds exactly where no cause of the ledger applies.
+-- The pictures that are accepted: the ranges and the lengths of document 01, 'What a sheet consists of', as one
+-- readable predicate. proofs/Accepted.antt shows that it holds exactly where no cause of the ledger applies.
 use Prim.Native.Nat.{ℕ, suc, _+_, _-_, _*_, _%_, _≤_, _<_}
 use mathlib.Core.Path.{_≡_}
 use mathlib.Core.List.{List}
@@ -71,15 +71,22 @@ pub record CellOk (depth : ℕ) (slices : List ℕ) (byte : ℕ → ℕ) : Type 
   pub sixth : byte 6 ≡ 0
   pub seventh : byte 7 ≡ 0
 
-pub record Accepted (p : Picture) (outputs : Planes) : Type 0 where
+-- the picture's own part
+pub record PictureOk (p : Picture) : Type 0 where
   pub width : SizeOk (p .width)
   pub height : SizeOk (p .height)
   pub settings : SettingsOk (p .settings)
   pub originals : PlanesOk p (p .originals)
-  pub outputs-long : PlanesOk p outputs
   pub cells-long : length (p .cells) ≡ 8 * cellCount p
   pub slices : SlicesOk (p .slices)
   pub columns : StartsOk (p .columns) 20 (ctbSize (p .settings)) (p .width)
   pub rows : StartsOk (p .rows) 22 (ctbSize (p .settings)) (p .height)
   pub cells : (n : ℕ) → n < cellCount p → CellOk (p .settings .luma-depth) (p .slices) (cellByte (p .cells) n)
-  pub samples : (c : Component) (k : ℕ) → k < length (planeOf (p .originals) c) → getD (planeOf (p .originals) c) k 0 ≤ largest (p .settings) c
+  pub samples :
+      (c : Component) (k : ℕ) → k < length (planeOf (p .originals) c)
+      → getD (planeOf (p .originals) c) k 0 ≤ largest (p .settings) c
+
+-- with the output planes that are lent to the stage
+pub record Accepted (p : Picture) (outputs : Planes) : Type 0 where
+  pub picture : PictureOk p
+  pub outputs-long : PlanesOk p outputs

@@ -1,6 +1,6 @@
--- Document 01, 'The cut': "Its cut is a sheet of that width and height: the tile's original samples row by row (chroma bounds divided by
--- the format's scales), its cell records byte for byte, column starts 0, row starts 0, output planes of its own lengths holding anything,
--- all else as in the sheet."
+-- Document 01, 'The cut': "Its cut is a sheet of that width and height: the tile's original samples row by row
+-- (chroma bounds divided by the format's scales), its cell records byte for byte, column starts 0, row starts 0,
+-- output planes of its own lengths holding anything, all else as in the sheet."
 use Prim.Native.Nat.{ℕ, _*_, _<_}
 use mathlib.Core.List.{[], _∷_, List}
 use lib.ListN.{length}

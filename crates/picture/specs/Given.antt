@@ -1,6 +1,7 @@
--- What a caller lends as a picture: the settings by value and the lists. The code's struct Settings holds the sizes too.
+-- What a caller lends as a picture: the settings by value and the lists. The code's struct Settings holds the sizes
+-- too.
 use Prim.Native.Nat.{ℕ}
-use mathlib.Core.List.{List}
+use mathlib.Core.List.{List, []}
 use Rattle.picture.specs.declared.Settings as Code
 use Rattle.picture.specs.Picture.{Picture, Planes, Settings}
 
@@ -15,12 +16,12 @@ settingsOf s = record {
   pcm-loop-filter-disabled = s .«pcm_loop_filter_disabled»;
 }
 
-abbrev pub planes : List ℕ → List ℕ → List ℕ → Planes
-planes y cb cr = record { y = y; cb = cb; cr = cr }
+abbrev pub planesOf : List ℕ → List ℕ → List ℕ → Planes
+planesOf y cb cr = record { y = y; cb = cb; cr = cr }
 
 -- the settings; the original planes; the cell, slice, tile column and tile row lists
-abbrev pub given : Code.Settings → Planes → List ℕ → List ℕ → List ℕ → List ℕ → Picture
-given s originals cells slices columns rows = record {
+abbrev pub pictureOf : Code.Settings → Planes → List ℕ → List ℕ → List ℕ → List ℕ → Picture
+pictureOf s originals cells slices columns rows = record {
   width = s .width;
   height = s .height;
   settings = settingsOf s;
@@ -30,3 +31,7 @@ given s originals cells slices columns rows = record {
   columns = columns;
   rows = rows;
 }
+
+-- a picture of the settings alone, for what goes by them and by no list
+abbrev pub bare : Code.Settings → Picture
+bare s = pictureOf s (planesOf [] [] []) [] [] [] []

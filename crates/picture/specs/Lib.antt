@@ -5,6 +5,8 @@ pub mod Cell
 pub mod Slice
 pub mod Tile
 pub mod Ledger
+pub mod Causes
 pub mod Accepted
 pub mod Cut
 pub mod Given
+pub mod Lent

@@ -1,12 +1,14 @@
 -- Document 01, 'What a sheet consists of': a picture is its sheet.
-use Prim.Native.Nat.{ℕ, _-_, _^_}
+use Prim.Native.Nat.{ℕ, _^_}
 use mathlib.Core.Bool.{Bool}
 use mathlib.Core.List.{List}
 use lib.IntN.{ℤ}
+use Rattle.ints.specs.Sample.{largestAt}
 use Rattle.picture.specs.Plane.{Plane, at}
 use Rattle.picture.specs.Scale.{Component, Y, Cb, Cr, samplingAcross, samplingDown, fromLuma}
 
--- "Chroma format", "Luma and chroma depth", "log2 of the CTB size", "Cb and Cr offsets", "the switch pcm_loop_filter_disabled"
+-- "Chroma format", "Luma and chroma depth", "log2 of the CTB size", "Cb and Cr offsets", "the switch
+-- pcm_loop_filter_disabled"
 pub record Settings : Type 0 where
   pub format : ℕ
   pub luma-depth : ℕ
@@ -57,10 +59,6 @@ abbrev pub depthOf : Settings → Component → ℕ
 depthOf t Y = t .luma-depth
 depthOf t Cb = t .chroma-depth
 depthOf t Cr = t .chroma-depth
-
--- "Largest sample: 2^depth − 1"
-abbrev pub largestAt : ℕ → ℕ
-largestAt depth = 2 ^ depth - 1
 
 abbrev pub largest : Settings → Component → ℕ
 largest t c = largestAt (depthOf t c)

@@ -1,6 +1,7 @@
--- How the samples of a plane, the 4 by 4 cells and the CTBs stand to luma samples, one direction at a time.
--- Document 01: "Luma columns, chroma columns, cell columns and CTB columns are separate counts .. and each gets its own type": the types are
--- LumaColumn, ChromaColumn, CellColumn and CtbColumn of src/columns.rt, whose scalings are the functions here.
+-- How the samples of a plane, the 4 by 4 cells and the CTBs stand to luma samples, one direction at a time. Document
+-- 01: "Luma columns, chroma columns, cell columns and CTB columns are separate counts .. and each gets its own type":
+-- the types are LumaColumn, ChromaColumn, CellColumn and CtbColumn of src/columns.rt, whose scalings are the
+-- functions here.
 use Prim.Native.Nat.{ℕ, _*_, _/_, _^_}
 use mathlib.Core.Bool.{cond}
 use lib.Dec.{eqb}
@@ -13,7 +14,8 @@ pub data Component : Type 0 where
 pub data Sampling : Type 0 where
   whole halved absent : Sampling
 
--- "Chroma format 0 to 3 (none, 4:2:0, 4:2:2, 4:4:4). Chroma planes are w/2 by h/2, w/2 by h, w by h; format 0 has empty ones."
+-- "Chroma format 0 to 3 (none, 4:2:0, 4:2:2, 4:4:4). Chroma planes are w/2 by h/2, w/2 by h, w by h; format 0 has
+-- empty ones."
 abbrev pub chromaAcross : ℕ → Sampling
 chromaAcross format = cond (eqb format 0) absent (cond (eqb format 3) whole halved)
 

@@ -1,5 +1,5 @@
--- Document 01: "Slice records, 4 bytes, at most 600, no header: disabled (0 or 1); beta offset div2 plus 6; tc offset div2 plus 6 (each 0 to
--- 12); filter across (0 or 1). An empty list stands for one record 0, 6, 6, 1."
+-- Document 01: "Slice records, 4 bytes, at most 600, no header: disabled (0 or 1); beta offset div2 plus 6; tc offset
+-- div2 plus 6 (each 0 to 12); filter across (0 or 1). An empty list stands for one record 0, 6, 6, 1."
 use Prim.Native.Nat.{ℕ, _+_, _*_, _/_}
 use mathlib.Core.List.{List, [], _∷_}
 use lib.Dec.{eqb}

@@ -1,5 +1,6 @@
-// Four counts of columns, each with a type of its own, as px, cx, gx and the CTB shift of the Rust, and the scalings between them.
-// Rows are plain numbers: a row is a loop's counter or an argument beside a typed column, and the contracts fix its unit.
+// Four counts of columns, each with a type of its own, as px, cx, gx and the CTB shift of the Rust, and the scalings
+// between them. Rows are plain numbers (rows.rt): a loop's counter or an argument beside a typed column, whose unit a
+// contract fixes.
 ghost use mathlib.Core.Path.{_≡_};
 ghost use Prim.Native.Nat.{_*_, _-_, _≤_, _<_, _^_};
 ghost use Rattle.picture.specs.Scale.{chromaAcross, fromLuma, toLuma, cellOf, ctbOf};

@@ -1,21 +1,25 @@
-// A picture's records: columns, cells, slices and tiles. The definitions that its specs hold are those of document 01, 'What a sheet
-// consists of', 'Refusal ledger' and 'The cut'.
+// A picture's records: columns and rows, cells, slices and tiles. The definitions that its specs hold are those of
+// document 01, 'What a sheet consists of', 'Refusal ledger' and 'The cut'.
 mod cells;
 mod columns;
+mod rows;
 mod slices;
 mod tiles;
 
 pub use cells::cell_at;
+pub use cells::cell_bytes;
 pub use cells::cell_number;
 pub use columns::CellColumn;
 pub use columns::ChromaColumn;
 pub use columns::CtbColumn;
 pub use columns::LumaColumn;
+pub use rows::chroma_rows;
+pub use rows::luma_row;
+pub use rows::row_of_cells;
+pub use rows::row_of_ctbs;
 pub use slices::slice_at;
 pub use tiles::same_tile_column;
 pub use tiles::same_tile_row;
-pub use tiles::tile_column;
-pub use tiles::tile_row;
 
 // A picture's sizes and settings, as a caller gives them; nothing is in range until it was checked.
 pub struct Settings {

@@ -3,6 +3,7 @@ use crate::Slice;
 ghost use mathlib.Core.Path.{_≡_};
 ghost use Prim.Native.Nat.{_+_, _*_, _≤_, _<_};
 ghost use lib.ListN.{length};
+ghost use Rattle.picture.specs.Lent.{given};
 ghost use Rattle.picture.specs.Slice.{sliceAt, sliceCount};
 
 // The record that an empty list stands for: 0, 6, 6, 1.
@@ -16,7 +17,7 @@ const DEFAULT: Slice = Slice {
 // Slice record n of a list whose length is a multiple of 4.
 pub fn slice_at(slices: &[u8], n: usize) -> Slice
     requires { ⌜ n < sliceCount (now slices) ⌝ }
-    ensures { λ r. ⌜ r ≡ sliceAt (now (slices .entry)) n ⌝ }
+    ensures { λ r. ⌜ r ≡ sliceAt (given slices) n ⌝ }
 {
     if slices.len() == 0 {
         return DEFAULT;

@@ -1,5 +1,5 @@
--- That `planeSample` means what it should: a plane gives its sample at each of its places, and nothing else gives one. And a plane of 3
--- columns and 2 rows, by computation.
+-- That `planeSample` means what it should: a plane gives its sample at each of its places, and nothing else gives one.
+-- And a plane of 3 columns and 2 rows, by computation.
 use Prim.Native.Nat.{ℕ, _*_, _≤_, _<_}
 use mathlib.Core.Bool.{and-false}
 use mathlib.Core.List.{List, [], _∷_}
@@ -10,17 +10,19 @@ use Rattle.picture.specs.Plane.{at}
 use Rattle.plane_view.specs.View.{planeSample}
 use Rattle.plane_view.specs.declared.samples.Sample.the-variants.{Inside, Outside}
 
-pub inside : (list : List ℕ) (w h x y : ℕ) → length list ≡ w * h → x < w → y < h → planeSample list w h x y ≡ Inside (at list w x y)
-inside list w h x y plane column row = simp (eq-eqb (length list) (w * h) plane, lt-ltb x w column, lt-ltb y h row)
+pub inside : (list : List ℕ) {w h x y : ℕ} → length list ≡ w * h → x < w → y < h
+    → planeSample list w h x y ≡ Inside (at list w x y)
+inside list {w} {h} {x} {y} plane column row =
+    simp (eq-eqb (length list) (w * h) plane, lt-ltb x w column, lt-ltb y h row)
 
 pub refused : (list : List ℕ) (w h x y : ℕ) → (length list ≡ w * h → ⊥) → planeSample list w h x y ≡ Outside
 refused list w h x y none = simp (ne-eqb (length list) (w * h) none)
 
-pub right-of-it : (list : List ℕ) (w h x y : ℕ) → w ≤ x → planeSample list w h x y ≡ Outside
-right-of-it list w h x y past = simp (le-ltb x w past, and-false)
+pub right-of-it : (list : List ℕ) {w x : ℕ} (h y : ℕ) → w ≤ x → planeSample list w h x y ≡ Outside
+right-of-it list {w} {x} h y past = simp (le-ltb x w past, and-false)
 
-pub below-it : (list : List ℕ) (w h x y : ℕ) → h ≤ y → planeSample list w h x y ≡ Outside
-below-it list w h x y past = simp (le-ltb y h past, and-false)
+pub below-it : (list : List ℕ) {h y : ℕ} (w x : ℕ) → h ≤ y → planeSample list w h x y ≡ Outside
+below-it list {h} {y} w x past = simp (le-ltb y h past, and-false)
 
 abbrev six : List ℕ
 six = 10 ∷ 11 ∷ 12 ∷ 20 ∷ 21 ∷ 22 ∷ []

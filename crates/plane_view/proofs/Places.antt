@@ -1,5 +1,5 @@
--- Where a place of a plane stands in the list of its rows. Whether a product is at most a number is asked by a division, which cannot
--- overflow; these say what the answer means.
+-- Where a place of a plane stands in the list of its rows. Whether a product is at most a number is asked by a
+-- division, which cannot overflow; these say what the answer means.
 use Prim.Native.Nat.{ℕ, _+_, _-_, _*_, _/_, _≤_, _<_}
 use mathlib.Core.Bool.{Bool, true, false, cond, _&&_}
 use mathlib.Core.List.{List}
@@ -57,13 +57,18 @@ sizeAt b w h = cond b (record { width = w; height = h }) (record { width = 0; he
 
 -- the sample that a view gives, at the two answers of `isPlane`
 seen-at : (list : List ℕ) (w h x y : ℕ) (b : Bool) → isPlane list w h ≡ b
-    → sampleIn list (sizeAt b w h .width) (sizeAt b w h .height) x y ≡ cond (b && (ltb x w && ltb y h)) (Inside (at list w x y)) Outside
+    → sampleIn list (sizeAt b w h .width) (sizeAt b w h .height) x y
+    ≡ cond (b && (ltb x w && ltb y h)) (Inside (at list w x y)) Outside
 seen-at list w h x y true e =
+    let in-list : x < w → y < h → y * w + x < length list =
+    λ column row. subst⁻¹ (λ (n : ℕ). y * w + x < n) (eqb-true _ _ e) (place-of column row)
+    in
     ap (λ (t : Bool). cond t (Inside (at list w x y)) Outside)
     (third (ltb x w) (ltb y h) (ltb (y * w + x) (length list))
-    (λ column row. lt-ltb (y * w + x) (length list) (subst⁻¹ (λ (n : ℕ). y * w + x < n) (eqb-true _ _ e) (place-of (ltb-true x w column) (ltb-true y h row)))))
+    (λ column row. lt-ltb (y * w + x) (length list) (in-list (ltb-true x w column) (ltb-true y h row))))
 seen-at list w h x y false e = simp (le-ltb x 0 (omega arith))
 
 -- a view of the size that was passed gives the samples of the plane, and the refused view none
-pub seen : (list : List ℕ) (w h x y : ℕ) → sampleIn list (viewSize list w h .width) (viewSize list w h .height) x y ≡ planeSample list w h x y
+pub seen : (list : List ℕ) (w h x y : ℕ)
+    → sampleIn list (viewSize list w h .width) (viewSize list w h .height) x y ≡ planeSample list w h x y
 seen list w h x y = seen-at list w h x y (isPlane list w h) refl

@@ -1,5 +1,5 @@
--- Document 01: "The plane view carries lent samples with their width and height, as `RefPlane` in src/mc.rs does." What its accessors answer,
--- over the list of the samples.
+-- Document 01: "The plane view carries lent samples with their width and height, as `RefPlane` in src/mc.rs does."
+-- What its accessors answer, over the list of the samples.
 use Prim.Native.Nat.{ℕ, _+_, _*_}
 use mathlib.Core.Bool.{Bool, cond, _&&_}
 use mathlib.Core.List.{List}
@@ -16,12 +16,15 @@ isPlane list width height = eqb (length list) (width * height)
 
 -- the size that a view shows: 0 by 0 where the list is no plane
 abbrev pub viewSize : List ℕ → ℕ → ℕ → Size
-viewSize list width height = cond (isPlane list width height) (record { width = width; height = height }) (record { width = 0; height = 0 })
+viewSize list width height =
+    cond (isPlane list width height) (record { width = width; height = height }) (record { width = 0; height = 0 })
 
 -- the sample at column x of row y, where the size and the list have that place
 abbrev pub sampleIn : List ℕ → ℕ → ℕ → ℕ → ℕ → Sample
-sampleIn list width height x y = cond (ltb x width && (ltb y height && ltb (y * width + x) (length list))) (Inside (at list width x y)) Outside
+sampleIn list width height x y =
+    cond (ltb x width && (ltb y height && ltb (y * width + x) (length list))) (Inside (at list width x y)) Outside
 
 -- the sample at column x of row y of a plane; a list that is no plane of that size has none
 abbrev pub planeSample : List ℕ → ℕ → ℕ → ℕ → ℕ → Sample
-planeSample list width height x y = cond (isPlane list width height && (ltb x width && ltb y height)) (Inside (at list width x y)) Outside
+planeSample list width height x y =
+    cond (isPlane list width height && (ltb x width && ltb y height)) (Inside (at list width x y)) Outside

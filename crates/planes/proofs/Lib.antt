@@ -1,5 +1,4 @@
 pub mod Bands
-pub mod Index
 pub mod Parts
 pub mod Strips
 pub mod Tables

@@ -1,5 +1,5 @@
--- A part of a list that is lent to a call and comes back: what the callee says of the part, said of the whole; and the same of
--- rows of w samples.
+-- A part of a list that is lent to a call and comes back: what the callee says of the part, said of the whole; and
+-- the same of rows of w samples.
 use mathlib.Core.Path.{_≡_, sym, ap, _∙_}
 use mathlib.Core.List.{List, _++_}
 use Prim.Native.Nat.{ℕ, _+_, _-_, _*_, _≤_, _<_}
@@ -8,7 +8,7 @@ use native.Mathlib.Omega.{arith}
 use lib.ListN.{length, getD, take, drop, length-append, length-take, length-drop, List·getD-append}
 use lib.Seq.{length-take-le, getD-take, getD-drop, getD-append-add}
 use Rattle.planes.specs.Rows.{seen}
-use Rattle.planes.proofs.Index.{row-le, within-rows}
+use Rattle.picture.proofs.Index.{row-le, within-rows}
 
 -- the k elements of xs from a
 abbrev pub part : ℕ → ℕ → List ℕ → List ℕ
@@ -38,7 +38,8 @@ module _ (a k : ℕ) (xs : List ℕ) (room : a + k ≤ length xs) where
     skip : (j : ℕ) → getD (back a k xs ys) (a + j) 0 ≡ getD (ys ++ drop k (drop a xs)) j 0
     skip j =
         let l : length (take a xs) ≡ a = length-take-le a xs (omega arith) in
-        ap (λ (n : ℕ). getD (back a k xs ys) (n + j) 0) (sym l) ∙ getD-append-add (take a xs) (ys ++ drop k (drop a xs)) j 0
+        ap (λ (n : ℕ). getD (back a k xs ys) (n + j) 0) (sym l)
+        ∙ getD-append-add (take a xs) (ys ++ drop k (drop a xs)) j 0
 
     pub back-in : (j : ℕ) → j < k → getD (back a k xs ys) (a + j) 0 ≡ getD ys j 0
     back-in j h = skip j ∙ List·getD-append ys (drop k (drop a xs)) 0 j (omega arith)
@@ -107,4 +108,5 @@ module _ (w lo r q : ℕ) (lr : lo ≤ r) (rq : r ≤ q) (xs : List ℕ) (room :
     rows-after x y qy =
         let h : (r - lo) * w ≤ (q - lo) * w = rows-order in
         let b : (q - lo) * w ≤ (y - lo) * w = row-le w (omega arith) in
-        back-after ((r - lo) * w) ((q - lo) * w - (r - lo) * w) xs (omega arith) ys len ((y - lo) * w + x) (omega arith)
+        back-after ((r - lo) * w) ((q - lo) * w - (r - lo) * w) xs (omega arith) ys len ((y - lo) * w + x)
+        (omega arith)

@@ -24,7 +24,8 @@ unfolding table
 length-table w h G = length-tabulate (w * h) (λ k. G (k % w) (k / w))
 
 -- index k of a list of rows is column k % w of row k / w
-by-rows : (w h : ℕ) (list : List ℕ) (G : Plane) → 0 < w → Holds w h list G → (k : ℕ) → k < w * h → getD list k 0 ≡ getD (table w h G) k 0
+by-rows : (w h : ℕ) (list : List ℕ) (G : Plane) → 0 < w → Holds w h list G → (k : ℕ) → k < w * h
+    → getD list k 0 ≡ getD (table w h G) k 0
 unfolding table at
 by-rows w h list G some held k hk =
     let row : k / w < h = div-lt-iff-lt-mul some .1 (omega (arith, mul-comm h w)) in
@@ -36,7 +37,8 @@ pub holds-table : (w h : ℕ) (list : List ℕ) (G : Plane) → length list ≡ 
 holds-table zero h list G len held =
     ext-getD 0 list (table 0 h G) (len ∙ sym (length-table 0 h G)) (λ k hk. absurd (omega arith))
 holds-table (suc v) h list G len held =
-    ext-getD 0 list (table (suc v) h G) (len ∙ sym (length-table (suc v) h G)) (λ k hk. by-rows (suc v) h list G (omega arith) held k (omega arith))
+    ext-getD 0 list (table (suc v) h G) (len ∙ sym (length-table (suc v) h G))
+    (λ k hk. by-rows (suc v) h list G (omega arith) held k (omega arith))
 
 -- xs holds G, and ys holds T of xs: ys holds T of G
 pub holds-then : (w h : ℕ) (T : Plane → Plane) (G : Plane) (xs ys : List ℕ) → Local w 0 h T

@@ -1,6 +1,7 @@
--- The geometry of a pass, for any filter, either direction and any way of laying samples out: the windows of the edges are apart, so a
--- list whose windows are filtered one after the other, in place, holds the pass.
--- Positions are a across the edges and b along them. ix a b is where the sample stands in the list, and D says which samples it has.
+-- The geometry of a pass, for any filter, either direction and any way of laying samples out: the windows of the
+-- edges are apart, so a list whose windows are filtered one after the other, in place, holds the pass. Positions are
+-- a across the edges and b along them. ix a b is where the sample stands in the list, and D says which samples it
+-- has.
 use Prim.Native.Nat.{ℕ, _+_, _-_, _%_, _≤_, _<_, min}
 use mathlib.Core.Path.{_≡_, refl, sym, ap, ap₂, _∙_, subst, fun-ext}
 use mathlib.Core.Bool.{Bool, true, false, cond, _&&_}
@@ -11,15 +12,16 @@ use native.Mathlib.Omega.{arith}
 use borrow.Author.Tests.{lt-ltb, le-ltb}
 use lib.Dec.{ltb}
 use lib.ListN.{getD}
+use Rattle.ints.proofs.Laws.{either}
 use Rattle.filter.specs.Pass.{edgeOf, firstLine, window, applied, pass}
 use Rattle.picture.specs.Plane.{Plane}
 use Rattle.planes.specs.Window.{spot, windowAt, Filtered, taken}
-use Rattle.planes.proofs.Index.{lt-or-le}
 
 -- ---- windows
 
 -- planes that agree on a window have one window
-pub window-same : (P Q : Plane) (e l : ℕ) → ((i j : ℕ) → i < 8 → j < 4 → P (e + i - 4) (l + j) ≡ Q (e + i - 4) (l + j)) → window P e l ≡ window Q e l
+pub window-same : (P Q : Plane) (e l : ℕ)
+    → ((i j : ℕ) → i < 8 → j < 4 → P (e + i - 4) (l + j) ≡ Q (e + i - 4) (l + j)) → window P e l ≡ window Q e l
 unfolding window
 window-same P Q e l h = fun-ext (λ i. fun-ext (λ j. h (min i 7) (min j 3) (omega arith) (omega arith)))
 
@@ -28,7 +30,8 @@ pub window-in : (P : Plane) (list : List ℕ) (base across along e l : ℕ)
     → ((i j : ℕ) → i < 8 → j < 4 → getD list (spot base across along i j) 0 ≡ P (e + i - 4) (l + j))
     → windowAt list base across along ≡ window P e l
 unfolding window windowAt
-window-in P list base across along e l h = fun-ext (λ i. fun-ext (λ j. h (min i 7) (min j 3) (omega arith) (omega arith)))
+window-in P list base across along e l h =
+    fun-ext (λ i. fun-ext (λ j. h (min i 7) (min j 3) (omega arith) (omega arith)))
 
 -- ---- a pass, point by point
 
@@ -51,17 +54,23 @@ module _ {A : Type 0} (filter : A → Plane → Plane) (lim : ℕ) (segment : �
   own (some x) P a b h = refl
 
   pub pass-on : (P : Plane) (a b : ℕ) → 0 < edgeOf a → edgeOf a < lim
-      → pass filter lim segment P a b ≡ taken filter (segment (edgeOf a) (firstLine b)) (window P (edgeOf a) (firstLine b)) (a + 4 - edgeOf a) (b - firstLine b)
+      → pass filter lim segment P a b
+      ≡ taken filter (segment (edgeOf a) (firstLine b)) (window P (edgeOf a) (firstLine b)) (a + 4 - edgeOf a)
+      (b - firstLine b)
   unfolding pass
-  pass-on P a b p q = simp (lt-ltb 0 (edgeOf a) p, lt-ltb (edgeOf a) lim q) (own (segment (edgeOf a) (firstLine b)) P a b p)
+  pass-on P a b p q =
+      simp (lt-ltb 0 (edgeOf a) p, lt-ltb (edgeOf a) lim q) (own (segment (edgeOf a) (firstLine b)) P a b p)
 
   -- at an edge or not
   edged-or : (e : ℕ) → ((0 < e) × (e < lim)) ⊎ ((e ≡ 0) ⊎ (lim ≤ e))
-  edged-or e = ⊎-elim (λ p. ⊎-elim (λ q. inl (p, q)) (λ q. inr (inr q)) (lt-or-le e lim)) (λ z. inr (inl (omega arith))) (lt-or-le 0 e)
+  edged-or e =
+      ⊎-elim (λ p. ⊎-elim (λ q. inl (p, q)) (λ q. inr (inr q)) (either e lim)) (λ z. inr (inl (omega arith)))
+      (either 0 e)
 
   -- planes that agree at a point and in its window have the same pass there
   pub pass-same : (P Q : Plane) (a b : ℕ) → P a b ≡ Q a b
-      → (0 < edgeOf a → edgeOf a < lim → (i j : ℕ) → i < 8 → j < 4 → P (edgeOf a + i - 4) (firstLine b + j) ≡ Q (edgeOf a + i - 4) (firstLine b + j))
+      → (0 < edgeOf a → edgeOf a < lim → (i j : ℕ) → i < 8 → j < 4
+      → P (edgeOf a + i - 4) (firstLine b + j) ≡ Q (edgeOf a + i - 4) (firstLine b + j))
       → pass filter lim segment P a b ≡ pass filter lim segment Q a b
   pass-same P Q a b e h =
       ⊎-elim
@@ -81,14 +90,16 @@ pub record Upto (D : ℕ → ℕ → Type 0) (m : ℕ → ℕ → ℕ) (t : ℕ)
 
 -- ---- a window is filtered in place
 
-module _ {A : Type 0} (filter : A → Plane → Plane) (lim : ℕ) (segment : ℕ → ℕ → Option A) (D : ℕ → ℕ → Type 0) (ix : ℕ → ℕ → ℕ)
+module _ {A : Type 0} (filter : A → Plane → Plane) (lim : ℕ) (segment : ℕ → ℕ → Option A) (D : ℕ → ℕ → Type 0)
+    (ix : ℕ → ℕ → ℕ)
     (one : (a b c d : ℕ) → D a b → D c d → ix a b ≡ ix c d → (a ≡ c) × (b ≡ d))
     (e s base across along : ℕ) (e8 : e % 8 ≡ 0) (e-low : 8 ≤ e) (e-high : e < lim) (s4 : s % 4 ≡ 0)
     (inside : (i j : ℕ) → i < 8 → j < 4 → D (e + i - 4) (s + j))
     (place : (i j : ℕ) → i < 8 → j < 4 → ix (e + i - 4) (s + j) ≡ spot base across along i j)
     (xs ys : List ℕ) (fil : Filtered 4 (taken filter (segment e s)) base across along xs ys) where
   -- a sample of the window has the pass
-  pub here : (a b : ℕ) → edgeOf a ≡ e → firstLine b ≡ s → getD ys (ix a b) 0 ≡ pass filter lim segment (λ (c d : ℕ). getD xs (ix c d) 0) a b
+  pub here : (a b : ℕ) → edgeOf a ≡ e → firstLine b ≡ s
+      → getD ys (ix a b) 0 ≡ pass filter lim segment (λ (c d : ℕ). getD xs (ix c d) 0) a b
   here a b ea sb =
       let i : ℕ = a + 4 - e in
       let j : ℕ = b - s in
@@ -109,7 +120,8 @@ module _ {A : Type 0} (filter : A → Plane → Plane) (lim : ℕ) (segment : �
   away a b d n =
       fil .beyond (ix a b)
       (λ i j hi hj q.
-      let z : (a ≡ e + i - 4) × (b ≡ s + j) = one a b (e + i - 4) (s + j) d (inside i j hi hj) (q ∙ sym (place i j hi hj)) in
+      let z : (a ≡ e + i - 4) × (b ≡ s + j) =
+      one a b (e + i - 4) (s + j) d (inside i j hi hj) (q ∙ sym (place i j hi hj)) in
       n (omega arith) (omega arith))
 
   -- a turn of a loop that goes over windows by m: this window is where m is from t to t′
@@ -129,10 +141,11 @@ module _ {A : Type 0} (filter : A → Plane → Plane) (lim : ℕ) (segment : �
         ∙ pass-same filter lim segment (λ (c d : ℕ). getD xs (ix c d) 0) P a b (u .left a b d now)
         (λ p q i j hi hj.
         let w : D (edgeOf a + i - 4) (firstLine b + j) =
-        subst (λ (n : ℕ). D (n + i - 4) (firstLine b + j)) (sym (z .0)) (subst (λ (n : ℕ). D (e + i - 4) (n + j)) (sym (z .1)) (inside i j hi hj)) in
+        subst (λ (n : ℕ). D (n + i - 4) (firstLine b + j)) (sym (z .0))
+        (subst (λ (n : ℕ). D (e + i - 4) (n + j)) (sym (z .1)) (inside i j hi hj)) in
         u .left (edgeOf a + i - 4) (firstLine b + j) w
         (from (edgeOf a + i - 4) (firstLine b + j) w (omega arith) (omega arith) .0)))
-        (lt-or-le (m a b) t);
+        (either (m a b) t);
     left = λ a b d h.
         away a b d (λ p q. let z = from a b d p q in omega arith) ∙ u .left a b d (omega arith);
   }

@@ -6,12 +6,14 @@ use mathlib.Core.Logic.{⊎-elim}
 use native.Mathlib.Omega.{arith}
 use lib.ListN.{length, getD, set, length-set}
 use lib.Seq.{getD-set-same, getD-set-other}
+use Rattle.ints.proofs.Laws.{either}
 use Rattle.picture.specs.Plane.{Plane}
-use Rattle.planes.specs.Window.{spot, windowAt, Apart, Filtered, Put}
-use Rattle.planes.proofs.Index.{lt-or-le, multiples}
+use Rattle.planes.specs.Window.{spot, windowAt, Strides, Filtered, Put}
+use Rattle.picture.proofs.Index.{multiples}
 
 -- a window's sample is the list's
-pub window-at : (list : List ℕ) (base across along i j : ℕ) → i < 8 → j < 4 → windowAt list base across along i j ≡ getD list (spot base across along i j) 0
+pub window-at : (list : List ℕ) (base across along i j : ℕ) → i < 8 → j < 4
+    → windowAt list base across along i j ≡ getD list (spot base across along i j) 0
 unfolding windowAt
 window-at list base across along i j hi hj =
     ap₂ (λ (k l : ℕ). getD list (spot base across along k l) 0) (omega arith) (omega arith)
@@ -21,7 +23,8 @@ window-at list base across along i j hi hj =
 pub put-none : (at step : ℕ) (v xs : List ℕ) → Put 0 at step v xs xs
 put-none at step v xs = record { len = refl; within = λ k h. absurd (omega arith); beyond = λ i h. refl }
 
-pub put-more : (n at step i : ℕ) (v xs ys : List ℕ) → 0 < step → i ≡ at + n * step → i < length ys → Put n at step v xs ys
+pub put-more : (n at step i : ℕ) (v xs ys : List ℕ) → 0 < step → i ≡ at + n * step → i < length ys
+    → Put n at step v xs ys
     → Put (n + 1) at step v xs (set ys i (getD v n 0))
 put-more n at step i v xs ys p is room w = record {
   len = length-set ys i (getD v n 0) ∙ w .len;
@@ -36,7 +39,7 @@ put-more n at step i v xs ys p is room w = record {
       ap (λ (m : ℕ). getD (set ys i (getD v n 0)) m 0) at-i
       ∙ getD-set-same ys i (getD v n 0) 0 room
       ∙ ap (λ (m : ℕ). getD v m 0) (sym e))
-      (lt-or-le k n);
+      (either k n);
   beyond = λ j h.
       getD-set-other ys i j (getD v n 0) 0 (λ e. h n (omega arith) (e ∙ is))
       ∙ w .beyond j (λ k l. h k (omega arith));
@@ -64,7 +67,7 @@ filtered-same f base across along xs same = record {
   beyond = λ k h. refl;
 }
 
-module _ (f : Plane → Plane) (base across along : ℕ) (sep : Apart across along) (xs : List ℕ) where
+module _ (f : Plane → Plane) (base across along : ℕ) (sep : Strides across along) (xs : List ℕ) where
   pub filtered-none : Filtered 0 f base across along xs xs
   filtered-none = record { len = refl; within = λ i j hi hj. absurd (omega arith); beyond = λ k h. refl }
 
@@ -97,7 +100,7 @@ module _ (f : Plane → Plane) (base across along : ℕ) (sep : Apart across alo
         (λ now.
         let z : j ≡ n = omega arith in
         rw z (is i hi))
-        (lt-or-le j n);
+        (either j n);
     beyond = λ k h. rest k (λ i hi. h i n hi (omega arith)) ∙ w .beyond k (λ i j hi hj. h i j hi (omega arith));
   }
 
@@ -106,4 +109,5 @@ module _ (f : Plane → Plane) (base across along : ℕ) (sep : Apart across alo
       → Put 8 (base + n * along) across v ys zs
       → ((i : ℕ) → i < 8 → getD v i 0 ≡ f (windowAt xs base across along) i n)
       → Filtered (n + 1) f base across along xs zs
-  filtered-more n v ys zs less w p is = filtered-line n ys zs less w (p .len) (λ i hi. p .within i hi ∙ is i hi) (p .beyond)
+  filtered-more n v ys zs less w p is =
+      filtered-line n ys zs less w (p .len) (λ i hi. p .within i hi ∙ is i hi) (p .beyond)

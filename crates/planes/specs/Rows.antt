@@ -1,8 +1,7 @@
 -- A list of rows that stands for some rows of a plane, and what it is that such a list holds the samples of a plane.
-use Prim.Native.Nat.{ℕ, _+_, _-_, _*_, _%_, _≤_, _<_}
+use Prim.Native.Nat.{ℕ, _+_, _-_, _*_, _≤_, _<_}
 use mathlib.Core.Path.{_≡_}
 use mathlib.Core.List.{List}
-use mathlib.Core.Logic.{_⊎_}
 use mathlib.Core.Option.{Option}
 use lib.ListN.{getD}
 use Rattle.filter.specs.Pass.{pass}
@@ -23,7 +22,3 @@ Holds w h list G = (x y : ℕ) → x < w → y < h → at list w x y ≡ G x y
 -- the pass over horizontal edges of a plane of h rows
 abbrev pub crosswise : {A : Type 0} → (A → Plane → Plane) → ℕ → (ℕ → ℕ → Option A) → Plane → Plane
 crosswise filter h segment P = transposed (pass filter h segment (transposed P))
-
--- a cut between rows that splits no window of a horizontal edge: at the start, at the end, or four rows below an edge
-abbrev pub Cut : ℕ → ℕ → Type 0
-Cut h r = (r ≡ 0) ⊎ ((r ≡ h) ⊎ (r % 8 ≡ 4))

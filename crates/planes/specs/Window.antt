@@ -7,7 +7,8 @@ use lib.ListN.{length, getD}
 use Rattle.filter.specs.Pass.{applied}
 use Rattle.picture.specs.Plane.{Plane}
 
--- where sample i of line j stands: `base` is p3 of line 0; `across` and `along` are the strides across the edge and along it
+-- where sample i of line j stands: `base` is p3 of line 0; `across` and `along` are the strides across the edge and
+-- along it
 abbrev pub spot : ℕ → ℕ → ℕ → ℕ → ℕ → ℕ
 spot base across along i j = base + j * along + i * across
 
@@ -15,16 +16,19 @@ spot base across along i j = base + j * along + i * across
 unfoldable pub windowAt : List ℕ → ℕ → ℕ → ℕ → Plane
 windowAt list base across along i j = getD list (spot base across along (min i 7) (min j 3)) 0
 
--- a window's 32 samples stand apart
-pub record Apart (across along : ℕ) : Type 0 where
+-- strides at which a window's 32 samples stand apart
+pub record Strides (across along : ℕ) : Type 0 where
   pub step : 0 < across
-  pub apart : (k l m n : ℕ) → k < 8 → l < 4 → m < 8 → n < 4 → l * along + k * across ≡ n * along + m * across → (k ≡ m) × (l ≡ n)
+  pub apart : (k l m n : ℕ) → k < 8 → l < 4 → m < 8 → n < 4 → l * along + k * across ≡ n * along + m * across
+      → (k ≡ m) × (l ≡ n)
 
 -- `after` is `before` with the first n lines of the window filtered by f, and nothing else changed
 pub record Filtered (n : ℕ) (f : Plane → Plane) (base across along : ℕ) (before after : List ℕ) : Type 0 where
   pub len : length after ≡ length before
-  pub within : (i j : ℕ) → i < 8 → j < n → getD after (spot base across along i j) 0 ≡ f (windowAt before base across along) i j
-  pub beyond : (k : ℕ) → ((i j : ℕ) → i < 8 → j < n → k ≡ spot base across along i j → ⊥) → getD after k 0 ≡ getD before k 0
+  pub within : (i j : ℕ) → i < 8 → j < n
+      → getD after (spot base across along i j) 0 ≡ f (windowAt before base across along) i j
+  pub beyond : (k : ℕ) → ((i j : ℕ) → i < 8 → j < n → k ≡ spot base across along i j → ⊥)
+      → getD after k 0 ≡ getD before k 0
 
 -- `after` is `before` with the first n samples of v written from `at`, `step` apart
 pub record Put (n at step : ℕ) (v before after : List ℕ) : Type 0 where

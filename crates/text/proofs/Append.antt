@@ -11,8 +11,8 @@ use Rattle.text.specs.Text.{Appended}
 pub appended-none : (at : ℕ) (l : List ℕ) → Appended at [] l l at
 appended-none at l = record { place = omega arith; len = refl; front = simp append-nil; rest = refl }
 
-pub appended-one : (at b : ℕ) (l : List ℕ) → at < length l → Appended at (b ∷ []) l (set l at b) (at + 1)
-appended-one at b l h =
+pub appended-one : {at : ℕ} {l : List ℕ} (b : ℕ) → at < length l → Appended at (b ∷ []) l (set l at b) (at + 1)
+appended-one {at} {l} b h =
     record {
       place = omega arith;
       len = length-set l at b;
@@ -20,7 +20,8 @@ appended-one at b l h =
       rest = drop-set-lt (at + 1) l at b (omega arith);
     }
 
-pub appended-then : {at m n : ℕ} {xs ys a b c : List ℕ} → Appended at xs a b m → Appended m ys b c n → Appended at (xs ++ ys) a c n
+pub appended-then : {at m n : ℕ} {xs ys a b c : List ℕ} → Appended at xs a b m → Appended m ys b c n
+    → Appended at (xs ++ ys) a c n
 appended-then {at} {m} {n} {xs} {ys} {a} {b} {c} p q =
     record {
       place = simp length-append (omega arith);

@@ -1,3 +1,4 @@
 pub mod Tables
 pub mod Luma
 pub mod Chroma
+pub mod Code

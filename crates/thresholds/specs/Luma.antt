@@ -1,6 +1,6 @@
--- ITU-T H.265 clause 8.7.2.5.3: the average QP, the table indices Q, and the luma thresholds β and tC at a general depth.
--- Document 01, 'Luma': "QP is (QpP + QpQ + 1) >> 1. β index: QP + 2·beta div2, held to 0..51. tc index: QP + 2·(bS − 1) + 2·tc div2,
--- held to 0..53, offsets of Q's slice. Both table values are times 2^(depth − 8)."
+-- ITU-T H.265 clause 8.7.2.5.3: the average QP, the table indices Q, and the luma thresholds β and tC at a general
+-- depth. Document 01, 'Luma': "QP is (QpP + QpQ + 1) >> 1. β index: QP + 2·beta div2, held to 0..51. tc index: QP +
+-- 2·(bS − 1) + 2·tc div2, held to 0..53, offsets of Q's slice. Both table values are times 2^(depth − 8)."
 use Prim.Native.Nat.{ℕ, _*_, _-_, _^_}
 use lib.ListN.{getD}
 use lib.IntN.{ℤ, pos}

@@ -1,9 +1,10 @@
-// 8.7.2.5.5 and table 8-10: the chroma QP and the chroma threshold. An index and a chroma QP are held 76 more (64 and 12).
+// 8.7.2.5.5 and table 8-10: the chroma QP and the chroma threshold. An index and a chroma QP are held 76 more, as 64
+// and 12.
 use crate::tables::qpc_row;
 use crate::tables::scale;
 use crate::tables::tc_row;
 ghost use mathlib.Core.Path.{_≡_};
-ghost use Prim.Native.Nat.{_-_, _≤_, _<_};
+ghost use Prim.Native.Nat.{_≤_};
 ghost use Rattle.ints.specs.Int.{_⊖_};
 ghost use Rattle.thresholds.specs.Chroma.{clippedIndex, tableQpc, chromaQp, chromaTc};
 

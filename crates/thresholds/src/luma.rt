@@ -3,12 +3,12 @@ use crate::tables::beta_row;
 use crate::tables::scale;
 use crate::tables::tc_row;
 ghost use mathlib.Core.Path.{_≡_};
-ghost use Prim.Native.Nat.{_-_, _≤_};
+ghost use Prim.Native.Nat.{_≤_};
 ghost use lib.IntN.{pos};
 ghost use Rattle.ints.specs.Int.{_⊖_};
 ghost use Rattle.thresholds.specs.Luma.{averageQp, lumaBeta, lumaTc};
 
-// (QpQ + QpP + 1) >> 1, rounded down also below zero
+// (QpQ + QpP + 1) >> 1, rounded down also below zero: the bytes, 64 more than the QPs, are never below it.
 pub fn average_qp(p: u8, q: u8) -> u8
     ensures { λ r. ⌜ r ⊖ 64 ≡ averageQp (p ⊖ 64) (q ⊖ 64) ⌝ }
 {

@@ -6,9 +6,6 @@ use borrow.Author.Needs.{needs}
 use Rattle.ints.proofs.abs_diff.Statement.{statement}
 use Rattle.ints.proofs.abs_diff.Tie as tie
 
-sub-result : tie.Need-sub-result
-sub-result c = search needs
-
 returns : tie.Need-returns
 returns c = simp gap-is (omega arith)
 
@@ -16,4 +13,9 @@ returns-2 : tie.Need-returns-2
 returns-2 c = simp gap-is (omega arith)
 
 pub abs-diff-spec : {M : Type 1} → statement M
-abs-diff-spec = tie.close (tie.spec sub-result returns returns-2)
+abs-diff-spec =
+    tie.close
+    (tie.spec
+    (λ c. search needs)
+    returns
+    returns-2)

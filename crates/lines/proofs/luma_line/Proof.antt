@@ -6,21 +6,6 @@ use Rattle.lines.specs.Luma.{lumaLine}
 use Rattle.lines.proofs.luma_line.Statement.{statement}
 use Rattle.lines.proofs.luma_line.Tie as tie
 
-enum-told : tie.Need-enum-told
-enum-told c = search needs
-
-enum-told-2 : tie.Need-enum-told-2
-enum-told-2 c = search needs
-
-strong-line-requires : tie.Need-strong-line-requires
-strong-line-requires c κs = search needs
-
-enum-known-d : tie.Need-enum-known-d
-enum-known-d c = search needs
-
-weak-line-requires : tie.Need-weak-line-requires
-weak-line-requires c κs = search needs
-
 returns : tie.Need-returns
 unfolding lumaLine
 returns c = rw (c .enum-told .given .1) refl
@@ -37,11 +22,11 @@ pub luma-line-spec : {M : Type 1} → statement M
 luma-line-spec =
     tie.close
     (tie.spec
-    enum-told
-    enum-told-2
-    strong-line-requires
-    enum-known-d
-    weak-line-requires
+    (λ c. search needs)
+    (λ c. search needs)
+    (λ c κs. search needs)
+    (λ c. search needs)
+    (λ c κs. search needs)
     returns
     returns-2
     returns-3)

@@ -1,6 +1,7 @@
 -- `text::put_digits`, which calls itself, meets its contract. The measure is n, and n / 10 is less. Assumes nothing.
 use Prim.Native.Nat.{ℕ, _<_}
 use native.Mathlib.Omega.{arith}
+use borrow.Author.Needs.{needs}
 use borrow.Fn.Kinds.{In, Out}
 use borrow.Fn.PlainCycle.{Measures, is, falls, and}
 use Rattle.text.proofs.Append.{appended-then}
@@ -23,40 +24,35 @@ given t = and 1 kinds.ps (is 1 kinds.ps μ t) digits.Pre
 abbrev calls : ℕ → In 1 byte-kinds.ps × Out 1 byte-kinds.ps byte-kinds.r × In 1 kinds.ps × Out 1 kinds.ps kinds.r
 calls t = (byte.Asked, byte.Learnt, and 1 kinds.ps (falls 1 kinds.ps _<_ μ t) digits.Pre, digits.Post)
 
-cast-put-byte : (t : ℕ) → lts.Need-cast-put-byte (calls t) (given t) digits.Post
-cast-put-byte t c = omega arith
+module _ (t : ℕ) where
+  -- back from the last digit's byte to the digits before it, and to the test
+  abbrev front :
+      lts.After-put-byte-arg2 (calls t) (given t) digits.Post → lts.After-put-digits (calls t) (given t) digits.Post
+  front c = c .before .before .before
 
-add-put-byte : (t : ℕ) → lts.Need-add-put-byte (calls t) (given t) digits.Post
-add-put-byte t c = omega arith
+  abbrev more : lts.After-put-digits (calls t) (given t) digits.Post → lts.Else1 (calls t) (given t) digits.Post
+  more c = c .before .before
 
-put-byte-requires : (t : ℕ) → lts.Need-put-byte-requires (calls t) (given t) digits.Post
-put-byte-requires t c κs = omega (arith, decimal-some (c .before .before .before .args .n))
+  put-byte-requires : lts.Need-put-byte-requires (calls t) (given t) digits.Post
+  put-byte-requires c κs = omega (arith, decimal-some (c .before .before .before .args .n))
 
-put-digits-requires : (t : ℕ) → lts.Need-put-digits-requires (calls t) (given t) digits.Post
-put-digits-requires t c κs = omega (arith, length-more (c .before .before .before .args .n) (c .before .if1 .left))
+  put-digits-requires : lts.Need-put-digits-requires (calls t) (given t) digits.Post
+  put-digits-requires c κs = omega (arith, length-more (c .before .if1 .left))
 
-cast-put-byte-2 : (t : ℕ) → lts.Need-cast-put-byte-2 (calls t) (given t) digits.Post
-cast-put-byte-2 t c = omega arith
+  put-byte-requires-2 : lts.Need-put-byte-requires-2 (calls t) (given t) digits.Post
+  put-byte-requires-2 c κs = omega (arith, length-more (more (front c) .if1 .left))
 
-add-put-byte-2 : (t : ℕ) → lts.Need-add-put-byte-2 (calls t) (given t) digits.Post
-add-put-byte-2 t c = omega arith
+  returns : lts.Need-returns (calls t) (given t) digits.Post
+  returns c =
+      let put = c .before .before in
+      rw (decimal-small (put .before .before .if1 .taken)) (put .put-byte .ensures)
 
-put-byte-requires-2 : (t : ℕ) → lts.Need-put-byte-requires-2 (calls t) (given t) digits.Post
-put-byte-requires-2 t c κs = omega (arith, length-more _ (c .before .before .before .before .before .if1 .left))
-
-same-length : (t : ℕ) → lts.Need-same-length (calls t) (given t) digits.Post
-same-length t c = omega arith
-
-returns : (t : ℕ) → lts.Need-returns (calls t) (given t) digits.Post
-returns t c = rw (decimal-small _ (c .before .before .before .before .if1 .taken)) (c .before .before .put-byte .ensures)
-
-same-length-2 : (t : ℕ) → lts.Need-same-length-2 (calls t) (given t) digits.Post
-same-length-2 t c = omega arith
-
-returns-2 : (t : ℕ) → lts.Need-returns-2 (calls t) (given t) digits.Post
-returns-2 t c =
-    let call = c .before .before .before .before .before .before in
-    rw (decimal-more _ (call .before .before .if1 .left)) (appended-then (call .put-digits .ensures) (c .before .before .put-byte2 .ensures))
+  returns-2 : lts.Need-returns-2 (calls t) (given t) digits.Post
+  returns-2 c =
+      let last = c .before .before in
+      let digits = front (last .before) in
+      rw (decimal-more (more digits .if1 .left))
+      (appended-then (digits .put-digits .ensures) (last .put-byte2 .ensures))
 
 pub +put-digits-spec : {M : Type 1} → statement M
 +put-digits-spec =
@@ -65,14 +61,14 @@ pub +put-digits-spec : {M : Type 1} → statement M
     (calls t)
     (given t)
     digits.Post
-    (cast-put-byte t)
-    (add-put-byte t)
+    (λ c. search needs)
+    (λ c. search needs)
     (put-byte-requires t)
     (put-digits-requires t)
-    (cast-put-byte-2 t)
-    (add-put-byte-2 t)
+    (λ c. search needs)
+    (λ c. search needs)
     (put-byte-requires-2 t)
-    (same-length t)
+    (λ c. search needs)
     (returns t)
-    (same-length-2 t)
+    (λ c. search needs)
     (returns-2 t)

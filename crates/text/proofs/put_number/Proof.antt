@@ -1,6 +1,7 @@
 -- `text::put_number` meets its contract: a u16 has five digits at most. Assumes nothing.
 use Prim.Native.Nat.{_≤_}
 use native.Mathlib.Omega.{arith}
+use borrow.Author.Needs.{needs}
 use lib.ListN.{length}
 use Rattle.text.specs.Text.{decimal}
 use Rattle.text.proofs.Decimal.{decimal-short}
@@ -8,16 +9,15 @@ use Rattle.text.proofs.put_number.Statement.{statement}
 use Rattle.text.proofs.put_number.Tie as tie
 
 five : (c : tie.Start) → length (decimal (c .args .n)) ≤ 5
-five c = decimal-short _ (c .fits .n .fits)
+five c = decimal-short (c .fits .n .fits)
 
 put-digits-requires : tie.Need-put-digits-requires
 put-digits-requires c κs = omega (arith, five (c .before .before))
 
-same-length : tie.Need-same-length
-same-length c = omega arith
-
 returns : tie.Need-returns
-returns c = (c .before .before .put-digits .ensures, omega (arith, five (c .before .before .before .before .before)))
+returns c =
+    let put = c .before .before in
+    (put .put-digits .ensures, omega (arith, five (put .before .before .before)))
 
 pub put-number-spec : {M : Type 1} → statement M
-put-number-spec = tie.close (tie.spec put-digits-requires same-length returns)
+put-number-spec = tie.close (tie.spec put-digits-requires (λ c. search needs) returns)

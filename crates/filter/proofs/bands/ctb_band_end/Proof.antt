@@ -6,12 +6,6 @@ use borrow.Author.Needs.{needs}
 use Rattle.filter.proofs.bands.ctb_band_end.Statement.{statement}
 use Rattle.filter.proofs.bands.ctb_band_end.Tie as tie
 
-add-if1 : tie.Need-add-if1
-add-if1 c = search needs
-
-add-result : tie.Need-add-result
-add-result c = search needs
-
 returns : tie.Need-returns
 unfolding ctbBandEnd
 returns c = omega arith
@@ -21,4 +15,10 @@ unfolding ctbBandEnd
 returns-2 c = omega arith
 
 pub ctb-band-end-spec : {M : Type 1} → statement M
-ctb-band-end-spec = tie.close (tie.spec add-if1 add-result returns returns-2)
+ctb-band-end-spec =
+    tie.close
+    (tie.spec
+    (λ c. search needs)
+    (λ c. search needs)
+    returns
+    returns-2)

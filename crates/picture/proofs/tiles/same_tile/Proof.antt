@@ -11,15 +11,14 @@ use Rattle.picture.proofs.tiles.same_tile.Tie as tie
 returns : tie.Need-returns
 returns c = sym (eq-eqb _ _ (ap (tileOf (c .before .before .args .starts .now)) (c .if1 .taken)))
 
-starts-reached-requires : tie.Need-starts-reached-requires
-starts-reached-requires c κs = search needs
-
-starts-reached-requires-2 : tie.Need-starts-reached-requires-2
-starts-reached-requires-2 c κs = search needs
-
 returns-2 : tie.Need-returns-2
 returns-2 c = ap₂ eqb (c .before .starts-reached .ensures) (c .starts-reached2 .ensures)
 
 pub same-tile-spec : {M : Type 1} → statement M
 same-tile-spec =
-    tie.close (tie.spec returns starts-reached-requires starts-reached-requires-2 returns-2)
+    tie.close
+    (tie.spec
+    returns
+    (λ c κs. search needs)
+    (λ c κs. search needs)
+    returns-2)

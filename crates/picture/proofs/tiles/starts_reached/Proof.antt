@@ -1,4 +1,5 @@
--- `starts_reached` meets its contract. The loop's invariant: the starts counted so far and those from i on make up the tile's number.
+-- `starts_reached` meets its contract. The loop's invariant: the starts counted so far and those from i on make up
+-- the tile's number.
 -- Assumes nothing.
 use Prim.Native.Nat.{_+_, _-_, _≤_}
 use mathlib.Core.Path.{_≡_}
@@ -20,34 +21,22 @@ abbrev μ-loop : tie.MeasureT-loop
 loop-holds : tie.Need-loop-holds Inv-loop μ-loop
 loop-holds c = search needs
 
-mul-if1 : tie.Need-mul-if1 Inv-loop μ-loop
-mul-if1 c = search needs
-
-shared-slice-read-if1 : tie.Need-shared-slice-read-if1 Inv-loop μ-loop
-shared-slice-read-if1 c = search needs
-
-cast-if1 : tie.Need-cast-if1 Inv-loop μ-loop
-cast-if1 c = omega (arith, c .shared-slice-known .given (c .before .before .loop .i))
-
-add-n : tie.Need-add-n Inv-loop μ-loop
-add-n c = omega arith
-
-add-i : tie.Need-add-i Inv-loop μ-loop
-add-i c = omega arith
-
-loop-less : tie.Need-loop-less Inv-loop μ-loop
-loop-less c = omega arith
-
 loop-again : tie.Need-loop-again Inv-loop μ-loop
 loop-again c =
-    let l = c .before .before .before .before .args .starts .now in
-    let ctb = c .before .before .before .before .args .ctb in
-    let i = c .before .before .before .loop .i in
+    let at = c .before .before .before in
+    let l = at .before .args .starts .now in
+    let ctb = at .before .args .ctb in
+    let i = at .loop .i in
     ⊎-elim (λ w. omega (arith, start-reached l ctb i (omega arith) (omega arith)))
     (λ w. omega (arith, start-past l ctb i (omega arith) (omega arith))) (c .if1 .came)
 
 returns : tie.Need-returns Inv-loop μ-loop
-returns c = omega (arith, starts-none (c .before .before .args .starts .now) (c .before .before .args .ctb) (c .before .loop .i) (omega arith))
+returns c =
+    omega (
+      arith,
+      starts-none (c .before .before .args .starts .now) (c .before .before .args .ctb)
+          (c .before .loop .i) (omega arith),
+    )
 
 pub starts-reached-spec : {M : Type 1} → statement M
 starts-reached-spec =
@@ -56,11 +45,11 @@ starts-reached-spec =
     Inv-loop
     μ-loop
     loop-holds
-    mul-if1
-    shared-slice-read-if1
-    cast-if1
-    add-n
-    add-i
-    loop-less
+    (λ c. search needs)
+    (λ c. search needs)
+    (λ c. omega (arith, c .shared-slice-known .given (c .before .before .loop .i)))
+    (λ c. omega arith)
+    (λ c. omega arith)
+    (λ c. omega arith)
     loop-again
     returns)

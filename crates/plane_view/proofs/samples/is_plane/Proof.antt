@@ -1,4 +1,5 @@
--- `is_plane` meets its contract: the product is taken where the division says that it is at most the length; else it is greater.
+-- `is_plane` meets its contract: the product is taken where the division says that it is at most the length; else it
+-- is greater.
 -- Assumes nothing.
 use Prim.Native.Nat.{ℕ, _*_}
 use mathlib.Core.Path.{sym, ap, _∙_}
@@ -16,9 +17,6 @@ returns c =
     ap (eqb (length (c .before .args .samples .now)))
     (sym (ap (λ (w : ℕ). w * c .before .args .height) (c .if1 .taken) ∙ zero-mul (c .before .args .height)))
 
-div-if2 : tie.Need-div-if2
-div-if2 c = search needs
-
 mul-result : tie.Need-mul-result
 mul-result c = record { fits = omega (arith, rows-fit (omega arith) (c .if2 .taken)) }
 
@@ -29,4 +27,4 @@ returns-3 : tie.Need-returns-3
 returns-3 c = sym (rows-pass _ (omega arith) (c .if2 .left))
 
 pub is-plane-spec : {M : Type 1} → statement M
-is-plane-spec = tie.close (tie.spec returns div-if2 mul-result returns-2 returns-3)
+is-plane-spec = tie.close (tie.spec returns (λ c. search needs) mul-result returns-2 returns-3)

@@ -9,13 +9,18 @@ use Rattle.picture.specs.Plane.{at}
 use Rattle.plane_view.proofs.Places.{place-in, place-past, column-past}
 use Rattle.plane_view.proofs.samples.sample_of.Statement.{statement}
 use Rattle.plane_view.proofs.samples.sample_of.Tie as tie
-use Rattle.plane_view.proofs.samples.sample_of.Reads as reads
-use Rattle.plane_view.proofs.samples.sample_of.Lts as lts
+
+-- back from the test of the place to that of the column, and to the call
+abbrev column : tie.Then4 → tie.Else1
+column c = c .before .before .before
+
+abbrev call : tie.Then4 → tie.Start
+call c = column c .before
 
 -- where the sample is read, its place is in the list
-place : (c : lts.Then4 reads.Pre reads.Post)
-    → c .before .before .before .before .args .y * c .before .before .before .before .args .width + c .before .before .before .before .args .x < length (c .before .before .before .before .args .samples .now)
-place c = place-in (c .before .before .before .if1 .left) (c .before .if3 .left) (c .if4 .taken)
+place : (c : tie.Then4)
+    → call c .args .y * call c .args .width + call c .args .x < length (call c .args .samples .now)
+place c = place-in (column c .if1 .left) (c .before .if3 .left) (c .if4 .taken)
 
 returns : tie.Need-returns
 returns c = simp (le-ltb _ _ (c .if1 .taken))
@@ -25,16 +30,13 @@ returns-2 c = simp (lt-ltb _ _ (c .before .if1 .left), le-ltb _ _ (c .if2 .taken
 
 returns-3 : tie.Need-returns-3
 returns-3 c =
-    simp (lt-ltb _ _ (c .before .before .if1 .left), lt-ltb _ _ (c .before .if2 .left), le-ltb _ _ (column-past (c .before .before .before .args .y * c .before .before .before .args .width) (c .if3 .taken)))
-
-sub-if4 : tie.Need-sub-if4
-sub-if4 c = search needs
-
-sub-if4-2 : tie.Need-sub-if4-2
-sub-if4-2 c = search needs
-
-div-if4 : tie.Need-div-if4
-div-if4 c = search needs
+    let row = c .before in
+    let args = row .before .before .args in
+    simp (
+      lt-ltb _ _ (row .before .if1 .left),
+      lt-ltb _ _ (row .if2 .left),
+      le-ltb _ _ (column-past (args .y * args .width) (c .if3 .taken)),
+    )
 
 mul-t12 : tie.Need-mul-t12
 mul-t12 c = omega (arith, place c)
@@ -46,16 +48,27 @@ mul-t14 : tie.Need-mul-t14
 mul-t14 c = omega (arith, place c)
 
 shared-slice-read-t16 : tie.Need-shared-slice-read-t16
-shared-slice-read-t16 c = place (c .before)
+shared-slice-read-t16 c = omega (arith, place (c .before))
 
 returns-4 : tie.Need-returns-4
 unfolding at
 returns-4 c =
-    simp (lt-ltb _ _ (c .before .before .before .before .if1 .left), lt-ltb _ _ (c .before .before .before .if2 .left), lt-ltb _ _ (place (c .before)))
+    let inside = c .before in
+    simp (
+      lt-ltb _ _ (column inside .if1 .left),
+      lt-ltb _ _ (inside .before .before .if2 .left),
+      lt-ltb _ _ (place inside),
+    )
 
 returns-5 : tie.Need-returns-5
 returns-5 c =
-    simp (lt-ltb _ _ (c .before .before .before .if1 .left), lt-ltb _ _ (c .before .before .if2 .left), le-ltb _ _ (place-past (c .before .before .before .if1 .left) (c .before .if3 .left) (c .if4 .left)))
+    let first = c .before in
+    let column-in = first .before .before .if1 .left in
+    simp (
+      lt-ltb _ _ column-in,
+      lt-ltb _ _ (first .before .if2 .left),
+      le-ltb _ _ (place-past column-in (first .if3 .left) (c .if4 .left)),
+    )
 
 pub sample-of-spec : {M : Type 1} → statement M
 sample-of-spec =
@@ -64,9 +77,9 @@ sample-of-spec =
     returns
     returns-2
     returns-3
-    sub-if4
-    sub-if4-2
-    div-if4
+    (λ c. search needs)
+    (λ c. search needs)
+    (λ c. search needs)
     mul-t12
     add-t13
     mul-t14

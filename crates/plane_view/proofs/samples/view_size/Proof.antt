@@ -5,9 +5,6 @@ use borrow.Author.Needs.{needs}
 use Rattle.plane_view.proofs.samples.view_size.Statement.{statement}
 use Rattle.plane_view.proofs.samples.view_size.Tie as tie
 
-is-plane-requires : tie.Need-is-plane-requires
-is-plane-requires c κs = search needs
-
 returns : tie.Need-returns
 returns c = simp (sym (c .before .is-plane .ensures) ∙ c .if1 .taken)
 
@@ -15,4 +12,4 @@ returns-2 : tie.Need-returns-2
 returns-2 c = simp (sym (c .before .is-plane .ensures) ∙ c .if1 .left)
 
 pub view-size-spec : {M : Type 1} → statement M
-view-size-spec = tie.close (tie.spec is-plane-requires returns returns-2)
+view-size-spec = tie.close (tie.spec (λ c κs. search needs) returns returns-2)

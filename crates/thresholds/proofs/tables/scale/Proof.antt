@@ -8,18 +8,9 @@ use borrow.Author.Needs.{needs}
 use Rattle.thresholds.proofs.tables.scale.Statement.{statement}
 use Rattle.thresholds.proofs.tables.scale.Tie as tie
 
-sub-result : tie.Need-sub-result
-sub-result c = search needs
-
-cast-result : tie.Need-cast-result
-cast-result c = search needs
-
-shl-result : tie.Need-shl-result
-shl-result c = search needs
-
 returns : tie.Need-returns
 unfolding scaled
-returns c = mod-eq-of-lt (scaled-small (c .args .depth) (c .args .v) (omega arith) (omega arith))
+returns c = mod-eq-of-lt (scaled-small {d = c .args .depth} (omega arith) (omega arith))
 
 pub scale-spec : {M : Type 1} → statement M
-scale-spec = tie.close (tie.spec sub-result cast-result shl-result returns)
+scale-spec = tie.close (tie.spec (λ c. search needs) (λ c. search needs) (λ c. search needs) returns)

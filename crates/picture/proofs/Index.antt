@@ -1,20 +1,16 @@
--- Indices of rows of w samples: sample x of row y stands at y * w + x. Products of two variables are nothing to `omega`, so
--- what is known of them is here.
+-- Indices of rows of w samples: sample x of row y stands at y * w + x. Products of two variables are nothing to
+-- `omega`, so what is known of them is here.
 use mathlib.Core.Path.{_≡_, ap, _∙_}
 use mathlib.Core.Logic.{_⊎_, inl, inr, ⊎-elim}
 use Prim.Native.Nat.{ℕ, _+_, _-_, _*_, _≤_, _<_}
 use native.Mathlib.Nat.{mul-le-mul-right, add-mul, mul-lt-mul-of-pos-right}
-use native.Mathlib.Decide.{decLt}
 use native.Mathlib.Omega.{arith}
 use borrow.Author.Count.{below-none, below-more}
-
--- one of the two holds
-pub lt-or-le : (a b : ℕ) → (a < b) ⊎ (b ≤ a)
-lt-or-le a b = elim (decLt a b) [ yes p ↦ inl p | no q ↦ inr (omega (arith, q)) ]
+use Rattle.ints.proofs.Laws.{either}
 
 -- two different numbers, one is the less
 pub apart : (a b : ℕ) → (a ≡ b → ⊥) → (a < b) ⊎ (b < a)
-apart a b n = ⊎-elim inl (λ h. inr (omega (arith, n))) (lt-or-le a b)
+apart a b n = ⊎-elim inl (λ h. inr (omega (arith, n))) (either a b)
 
 -- a later row starts at least a row further on
 pub row-step : (w : ℕ) {r q : ℕ} → r < q → r * w + w ≤ q * w
@@ -48,8 +44,8 @@ pub same-row : (w r q x y : ℕ) → x < w → y < w → r * w + x ≡ q * w + y
 same-row w r q x y hx hy e =
     ⊎-elim (λ h. let m : r * w + w ≤ q * w = row-step w h in omega arith)
     (λ h.
-    ⊎-elim (λ g. let m : q * w + w ≤ r * w = row-step w g in omega arith) (λ g. omega arith) (lt-or-le q r))
-    (lt-or-le r q)
+    ⊎-elim (λ g. let m : q * w + w ≤ r * w = row-step w g in omega arith) (λ g. omega arith) (either q r))
+    (either r q)
 
 pub same-column : (w r q x y : ℕ) → x < w → y < w → r * w + x ≡ q * w + y → x ≡ y
 same-column w r q x y hx hy e =

@@ -1,0 +1,17 @@
+-- Chroma rows on luma rows, by the chroma format.
+use Prim.Native.Nat.{ℕ, _*_}
+use mathlib.Core.Path.{_≡_, refl}
+use mathlib.Core.Bool.{Bool, true, false, cond}
+use borrow.Author.Tests.{eq-eqb, ne-eqb}
+use lib.Dec.{eqb}
+use Rattle.picture.specs.Scale.{whole, absent, chromaDown, toLuma}
+
+pub rows-halved : (format row : ℕ) → format ≡ 1 → 2 * row ≡ toLuma (chromaDown format) row
+rows-halved format row e = rw e
+
+pub rows-whole : (format row : ℕ) → (format ≡ 1 → ⊥) → row ≡ toLuma (chromaDown format) row
+rows-whole format row n = rw (ne-eqb format 1 n) (go (eqb format 0))
+  where
+    go : (t : Bool) → row ≡ toLuma (cond t absent whole) row
+    go true = refl
+    go false = refl
