@@ -1,7 +1,3 @@
-pub mod Answers
 pub mod Areas
-pub mod Blocks
-pub mod Bytes
-pub mod Places
-pub mod Refusals
+pub mod Forms
 pub mod Tests

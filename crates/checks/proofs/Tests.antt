@@ -1,64 +1,53 @@
--- A list of tests, tried one after another: what its last test, or its first part, says of the whole.
-use Prim.Native.Nat.{ℕ}
-use mathlib.Core.Path.{_≡_, refl, sym, ap, _∙_}
-use mathlib.Core.Bool.{Bool, true, false, cond, not}
+-- Tests of a list, or'd together one after another, as the code tries them.
+use mathlib.Core.Path.{_≡_, refl, sym, ap, ap₂, _∙_}
+use mathlib.Core.Bool.{Bool, true, false, _||_}
 use mathlib.Core.List.{List, [], _∷_, _++_}
-use borrow.Author.Tests.{lt-ltb, le-ltb, le-leb, lt-leb, ne-eqb}
-use lib.Dec.{eqb}
 use lib.IntN.{ℤ, pos, negsuc}
 use lib.Signed.{ltZ}
 use Rattle.ints.specs.Int.{neg, lt}
-use Rattle.picture.specs.Ledger.{anyOf, badOffset}
-use Rattle.picture.proofs.Causes.{eq-not}
+use Rattle.picture.specs.Causes.{badOffset}
+use Rattle.picture.specs.Ledger.{anyOf}
 
--- a test that holds ends the list; after one that fails the rest decides; and the last test decides
-pub ends : (b r : Bool) → b ≡ true → true ≡ cond b true r
-ends b r h = rw h
+abbrev pub orFrom : Bool → List Bool → Bool
+orFrom b [] = b
+orFrom b (t ∷ r) = orFrom (b || t) r
 
-pub holds : (b r : Bool) → b ≡ true → b ≡ cond b true r
-holds b r h = rw h
+abbrev pub orOf : List Bool → Bool
+orOf [] = false
+orOf (b ∷ r) = orFrom b r
 
-pub fails : (b r s : Bool) → b ≡ false → s ≡ r → s ≡ cond b true r
-fails b r s h e = rw h e
+pub one-test : (b : Bool) → b ≡ anyOf (b ∷ [])
+one-test true = refl
+one-test false = refl
 
-pub last : (b : Bool) → b ≡ cond b true false
-last true = refl
-last false = refl
+-- a list after another
+any-join : (l m : List Bool) → (anyOf l || anyOf m) ≡ anyOf (l ++ m)
+any-join [] m = refl
+any-join (true ∷ l) m = refl
+any-join (false ∷ l) m = any-join l m
 
-pub ne-not : (m n : ℕ) → (m ≡ n → ⊥) → not (eqb m n) ≡ true
-ne-not m n h = rw (ne-eqb m n h)
+pub any-both : (l m : List Bool) {r s : Bool} → r ≡ anyOf l → s ≡ anyOf m → (r || s) ≡ anyOf (l ++ m)
+any-both l m e f = ap₂ _||_ e f ∙ any-join l m
 
--- for `search`: a list of tests, each decided by a branch
-pub ruleset tests = (ends, holds, fails, last, lt-ltb, le-ltb, le-leb, lt-leb, ne-not, eq-not)
+pub any-same : (l k m : List Bool) → anyOf l ≡ anyOf k → anyOf (l ++ m) ≡ anyOf (k ++ m)
+any-same l k m e = sym (any-both l m refl refl) ∙ any-both k m e refl
 
--- the first part holds; or it fails, and the second decides
-both : (l m : List Bool) → anyOf (l ++ m) ≡ cond (anyOf l) true (anyOf m)
-both [] m = refl
-both (true ∷ l) m = refl
-both (false ∷ l) m = both l m
+-- one by one after a list
+any-rest : (b : Bool) (m : List Bool) → orFrom b m ≡ (b || anyOf m)
+any-rest true [] = refl
+any-rest false [] = refl
+any-rest true (t ∷ m) = any-rest true m
+any-rest false (t ∷ m) = any-rest t m ∙ any-both (t ∷ []) m (one-test t) refl
 
-module _ (l m : List Bool) {r : Bool} (e : r ≡ anyOf l) where
-  whole : {t : Bool} → r ≡ t → cond t true (anyOf m) ≡ anyOf (l ++ m)
-  whole h = ap (λ (t : Bool). cond t true (anyOf m)) (sym h ∙ e) ∙ sym (both l m)
+pub any-more : (l m : List Bool) {r : Bool} → r ≡ anyOf l → orFrom r m ≡ anyOf (l ++ m)
+any-more l m e = any-rest _ m ∙ any-both l m e refl
 
-  pub any-first : r ≡ true → r ≡ anyOf (l ++ m)
-  any-first h = h ∙ whole h
-
-  pub any-second : r ≡ false → {s : Bool} → s ≡ anyOf m → s ≡ anyOf (l ++ m)
-  any-second h f = f ∙ whole h
+pub any-of : (l : List Bool) → orOf l ≡ anyOf l
+any-of [] = refl
+any-of (b ∷ r) = any-more (b ∷ []) r (one-test b)
 
 -- the two tests of an offset z, as they read it from a signed local
-module _ (z : ℤ) {x : ℤ} (e : x ≡ z) where
-  low : ltZ x (negsuc 11) ≡ anyOf (lt z (neg (pos 12)) ∷ [])
-  unfolding lt neg
-  low = ap (λ (t : ℤ). ltZ t (negsuc 11)) e ∙ last _
-
-  high : ltZ (pos 12) x ≡ anyOf (lt (pos 12) z ∷ [])
-  unfolding lt
-  high = ap (ltZ (pos 12)) e ∙ last _
-
-  pub offset-low : ltZ x (negsuc 11) ≡ true → ltZ x (negsuc 11) ≡ anyOf (badOffset z)
-  offset-low h = any-first (lt z (neg (pos 12)) ∷ []) (lt (pos 12) z ∷ []) low h
-
-  pub offset-high : ltZ x (negsuc 11) ≡ false → ltZ (pos 12) x ≡ anyOf (badOffset z)
-  offset-high h = any-second (lt z (neg (pos 12)) ∷ []) (lt (pos 12) z ∷ []) low h high
+pub offset-tests : (z : ℤ) {x : ℤ} → x ≡ z → (ltZ x (negsuc 11) || ltZ (pos 12) x) ≡ anyOf (badOffset z)
+unfolding lt neg
+offset-tests z e =
+    ap (λ (t : ℤ). ltZ t (negsuc 11) || ltZ (pos 12) t) e ∙ any-of (ltZ z (negsuc 11) ∷ ltZ (pos 12) z ∷ [])

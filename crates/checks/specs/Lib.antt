@@ -1,4 +1,1 @@
-pub mod Cells
 pub mod Lengths
-pub mod Numbered
-pub mod Parts

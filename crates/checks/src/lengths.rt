@@ -1,78 +1,74 @@
 // Cause 6 of the ledger: the lengths. The sizes were checked before, so that the products fit.
+use picture::LumaColumn;
 use picture::Settings;
-ghost use Prim.Native.Nat.{_*_, _≤_};
+use picture::cell_bytes;
+use picture::chroma_rows;
+use picture::row_of_cells;
+ghost use Prim.Native.Nat.{_≤_};
 ghost use mathlib.Core.Path.{_≡_};
-ghost use mathlib.Core.List.{[]};
-ghost use Rattle.picture.specs.Given.{given, planes};
-ghost use Rattle.picture.specs.Ledger.{anyOf, badPlanes, badLists};
-ghost use Rattle.picture.specs.Picture.{Planes};
-ghost use Rattle.picture.specs.Scale.{chromaAcross, chromaDown, fromLuma};
-ghost use Rattle.checks.specs.Lengths.{OfLengths, badLengths};
+ghost use Rattle.picture.specs.Causes.{badCells};
+ghost use Rattle.picture.specs.Given.{bare};
+ghost use Rattle.picture.specs.Ledger.{anyOf};
+ghost use Rattle.picture.specs.Lent.{pictureGiven};
+ghost use Rattle.checks.specs.Lengths.{badLengths, lentTests, listTests, planeTests};
 
-// How many samples a chroma plane has.
-pub fn chroma_samples(format: u32, width: usize, height: usize) -> usize
-    requires { ⌜ (width ≤ 8192) × (height ≤ 8192) ⌝ }
-    ensures { λ r. ⌜ r ≡ fromLuma (chromaAcross format) width * fromLuma (chromaDown format) height ⌝ }
-{
-    if format == 0 {
-        return 0;
-    }
-    if format == 1 {
-        return (width / 2) * (height / 2);
-    }
-    if format == 3 {
-        return width * height;
-    }
-    (width / 2) * height
+// What a call is lent to be written beside a picture, by its lengths.
+pub enum OutputLengths {
+    None,
+    Planes { y: usize, cb: usize, cr: usize },
+    Cells(usize),
 }
 
-// A plane is not of its exact length; y, cb and cr are the lengths.
+// One of three planes, of y, cb and cr samples, is not of its exact length.
 pub fn bad_planes(settings: Settings, y: usize, cb: usize, cr: usize) -> bool
     requires { ⌜ (settings .width ≤ 8192) × (settings .height ≤ 8192) ⌝ }
-    ensures { λ r. ⌜ ((o : Planes) → OfLengths o y cb cr → r ≡ anyOf (badPlanes (given settings o [] [] [] []) o)) ⌝ }
+    ensures { λ r. ⌜ r ≡ anyOf (planeTests (bare settings) y cb cr) ⌝ }
 {
-    let width = settings.width as usize;
+    let width = LumaColumn(settings.width as usize);
     let height = settings.height as usize;
-    if y != width * height {
-        return true;
-    }
-    let chroma = chroma_samples(settings.chroma_format, width, height);
-    cb != chroma || cr != chroma
+    let across = width.chroma(settings.chroma_format);
+    let chroma = across.0 * chroma_rows(settings.chroma_format, height);
+    (y != width.0 * height) | (cb != chroma) | (cr != chroma)
 }
 
-// The cell list is not of its exact length; slice bytes not a multiple of 4 or above 2,400; too few or too many tile starts.
-pub fn bad_lists(
-    settings: Settings,
-    cells: &[u8],
-    slices: &[u8],
-    columns: &[u16],
-    rows: &[u16],
-) -> bool
+// A cell list of so many bytes is not of its exact length.
+pub fn bad_cell_bytes(settings: Settings, bytes: usize) -> bool
     requires { ⌜ (settings .width ≤ 8192) × (settings .height ≤ 8192) ⌝ }
-    ensures { λ r. ⌜ r ≡ anyOf (badLists (given settings (planes [] [] []) (now (cells .entry)) (now (slices .entry)) (now (columns .entry)) (now (rows .entry)))) ⌝ }
+    ensures { λ r. ⌜ r ≡ badCells (bare settings) bytes ⌝ }
 {
-    let width = settings.width as usize;
-    let height = settings.height as usize;
-    if cells.len() != 8 * ((width / 4) * (height / 4)) {
-        return true;
-    }
-    if slices.len() % 4 != 0 {
-        return true;
-    }
-    if 2400 < slices.len() {
-        return true;
-    }
-    if columns.len() < 1 {
-        return true;
-    }
-    if 20 < columns.len() {
-        return true;
-    }
-    rows.len() < 1 || 22 < rows.len()
+    let columns = LumaColumn(settings.width as usize).cell();
+    bytes != cell_bytes(columns, row_of_cells(settings.height as usize))
 }
 
-// 6. A plane or the cell list is not of its exact length; slice bytes not a multiple of 4 or above 2,400; too few or too many tile starts.
-// The output planes are given by their lengths.
+// What is lent to be written is not of its exact lengths.
+pub fn bad_lent(settings: Settings, lent: OutputLengths) -> bool
+    requires { ⌜ (settings .width ≤ 8192) × (settings .height ≤ 8192) ⌝ }
+    ensures { λ r. ⌜ r ≡ anyOf (lentTests (bare settings) lent) ⌝ }
+{
+    match lent {
+        OutputLengths::None => false,
+        OutputLengths::Planes { y, cb, cr } => bad_planes(settings, y, cb, cr),
+        OutputLengths::Cells(bytes) => bad_cell_bytes(settings, bytes),
+    }
+}
+
+// The cell list is not of its exact length; slice bytes not a multiple of 4 or above 2,400; too few or too many tile
+// starts. The lists are given by their lengths.
+fn bad_lists(settings: Settings, cells: usize, slices: usize, columns: usize, rows: usize) -> bool
+    requires { ⌜ (settings .width ≤ 8192) × (settings .height ≤ 8192) ⌝ }
+    ensures { λ r. ⌜ r ≡ anyOf (listTests (bare settings) cells slices columns rows) ⌝ }
+{
+    bad_cell_bytes(settings, cells)
+        | (slices % 4 != 0)
+        | (2400 < slices)
+        | (columns < 1)
+        | (20 < columns)
+        | (rows < 1)
+        | (22 < rows)
+}
+
+// 6. A plane or the cell list, or what is lent to be written, is not of its exact length; slice bytes not a multiple
+// of 4 or above 2,400; too few or too many tile starts.
 pub fn bad_lengths(
     settings: Settings,
     y: &[u16],
@@ -82,15 +78,19 @@ pub fn bad_lengths(
     slices: &[u8],
     columns: &[u16],
     rows: &[u16],
-    outy: usize,
-    outcb: usize,
-    outcr: usize,
+    lent: OutputLengths,
 ) -> bool
     requires { ⌜ (settings .width ≤ 8192) × (settings .height ≤ 8192) ⌝ }
-    ensures { λ r. ⌜ ((o : Planes) → OfLengths o outy outcb outcr → r ≡ anyOf (badLengths (given settings (planes (now (y .entry)) (now (cb .entry)) (now (cr .entry))) (now (cells .entry)) (now (slices .entry)) (now (columns .entry)) (now (rows .entry))) o)) ⌝ }
+    ensures { λ r. ⌜ r ≡ anyOf (badLengths (lentTests (bare settings) lent)
+        (pictureGiven settings y cb cr cells slices columns rows)) ⌝ }
 {
-    if bad_planes(settings, y.len(), cb.len(), cr.len()) {
-        return true;
-    }
-    bad_planes(settings, outy, outcb, outcr) || bad_lists(settings, cells, slices, columns, rows)
+    bad_planes(settings, y.len(), cb.len(), cr.len())
+        | bad_lent(settings, lent)
+        | bad_lists(
+            settings,
+            cells.len(),
+            slices.len(),
+            columns.len(),
+            rows.len(),
+        )
 }

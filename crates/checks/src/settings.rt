@@ -2,24 +2,22 @@
 use picture::Settings;
 ghost use mathlib.Core.Path.{_≡_};
 ghost use mathlib.Core.List.{_++_};
+ghost use Rattle.picture.specs.Causes.{badSize, badFormat, badDepths, badCtb, badOffset};
 ghost use Rattle.picture.specs.Given.{settingsOf};
-ghost use Rattle.picture.specs.Ledger.{anyOf, badSize, badFormat, badDepths, badCtb, badOffset};
+ghost use Rattle.picture.specs.Ledger.{anyOf};
 
 // A width or a height that is not allowed.
-pub fn bad_size(n: u32) -> bool
+fn bad_size(n: u32) -> bool
     ensures { λ r. ⌜ r ≡ anyOf (badSize n) ⌝ }
 {
-    if n % 8 != 0 {
-        return true;
-    }
-    n < 8 || 8192 < n
+    (n % 8 != 0) | (n < 8) | (8192 < n)
 }
 
 // 1. The width or the height is not allowed.
-pub fn bad_sizes(width: u32, height: u32) -> bool
-    ensures { λ r. ⌜ r ≡ anyOf (badSize width ++ badSize height) ⌝ }
+pub fn bad_sizes(settings: Settings) -> bool
+    ensures { λ r. ⌜ r ≡ anyOf (badSize (settings .width) ++ badSize (settings .height)) ⌝ }
 {
-    bad_size(width) || bad_size(height)
+    bad_size(settings.width) | bad_size(settings.height)
 }
 
 // 2. The chroma format is above 3.
@@ -33,32 +31,28 @@ pub fn bad_format(settings: Settings) -> bool
 pub fn bad_depths(settings: Settings) -> bool
     ensures { λ r. ⌜ r ≡ anyOf (badDepths (settingsOf settings)) ⌝ }
 {
-    if settings.luma_depth < 8 {
-        return true;
-    }
-    if 16 < settings.luma_depth {
-        return true;
-    }
-    settings.chroma_depth < 8 || 16 < settings.chroma_depth
+    let luma = settings.luma_depth;
+    let chroma = settings.chroma_depth;
+    (luma < 8) | (16 < luma) | (chroma < 8) | (16 < chroma)
 }
 
 // 4. The log2 of the CTB size is outside 4 to 6.
 pub fn bad_ctb(settings: Settings) -> bool
     ensures { λ r. ⌜ r ≡ anyOf (badCtb (settingsOf settings)) ⌝ }
 {
-    settings.log2_ctb < 4 || 6 < settings.log2_ctb
+    (settings.log2_ctb < 4) | (6 < settings.log2_ctb)
 }
 
 // A chroma offset outside −12 to 12.
-pub fn bad_offset(offset: i32) -> bool
+fn bad_offset(offset: i32) -> bool
     ensures { λ r. ⌜ r ≡ anyOf (badOffset offset) ⌝ }
 {
-    offset < -12 || 12 < offset
+    (offset < -12) | (12 < offset)
 }
 
 // 5. A chroma offset is outside −12 to 12, in every format.
 pub fn bad_offsets(settings: Settings) -> bool
     ensures { λ r. ⌜ r ≡ anyOf (badOffset (settings .«cb_qp_offset») ++ badOffset (settings .«cr_qp_offset»)) ⌝ }
 {
-    bad_offset(settings.cb_qp_offset) || bad_offset(settings.cr_qp_offset)
+    bad_offset(settings.cb_qp_offset) | bad_offset(settings.cr_qp_offset)
 }

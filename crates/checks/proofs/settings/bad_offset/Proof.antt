@@ -1,15 +1,12 @@
--- `bad_offset` meets its contract: each return goes by the tests before it.
+-- `bad_offset` meets its contract: its two tests together, of a number that fits.
 -- Assumes nothing.
 use mir.Facts.{toZ-ofZ}
-use Rattle.checks.proofs.Tests.{offset-low, offset-high}
+use Rattle.checks.proofs.Tests.{offset-tests}
 use Rattle.checks.proofs.settings.bad_offset.Statement.{statement}
 use Rattle.checks.proofs.settings.bad_offset.Tie as tie
 
 returns : tie.Need-returns
-returns c = offset-low _ (toZ-ofZ (c .before .fits .offset)) (c .if1 .taken)
-
-returns-2 : tie.Need-returns-2
-returns-2 c = offset-high _ (toZ-ofZ (c .before .fits .offset)) (c .if1 .left)
+returns c = offset-tests (c .args .offset) (toZ-ofZ (c .fits .offset))
 
 pub bad-offset-spec : {M : Type 1} → statement M
-bad-offset-spec = tie.close (tie.spec returns returns-2)
+bad-offset-spec = tie.close (tie.spec returns)

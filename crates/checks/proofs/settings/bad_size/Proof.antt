@@ -1,17 +1,12 @@
--- `bad_size` meets its contract: each return goes by the tests before it.
+-- `bad_size` meets its contract: its three tests together.
 -- Assumes nothing.
-use Rattle.checks.proofs.Tests.{tests}
+use Rattle.picture.specs.Causes.{badSize}
+use Rattle.checks.proofs.Tests.{any-of}
 use Rattle.checks.proofs.settings.bad_size.Statement.{statement}
 use Rattle.checks.proofs.settings.bad_size.Tie as tie
 
 returns : tie.Need-returns
-returns c = search tests depth 6
-
-returns-2 : tie.Need-returns-2
-returns-2 c = search tests depth 6
-
-returns-3 : tie.Need-returns-3
-returns-3 c = search tests depth 6
+returns c = any-of (badSize (c .args .n))
 
 pub bad-size-spec : {M : Type 1} → statement M
-bad-size-spec = tie.close (tie.spec returns returns-2 returns-3)
+bad-size-spec = tie.close (tie.spec returns)

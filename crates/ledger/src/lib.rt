@@ -1,0 +1,24 @@
+// The refusal ledger of document 01: the ten checks in its order, of which the first that applies is the answer.
+mod lists;
+mod numbers;
+mod order;
+mod settings;
+
+pub use numbers::number_of;
+pub use numbers::place_of;
+pub use order::check;
+
+// What the ledger answers. A place is that of the first bad record, start, cell or sample.
+pub enum Verdict {
+    Accepted,
+    Size,
+    Format,
+    Depth,
+    CtbSize,
+    Offset,
+    Lengths,
+    Slice(usize),
+    TileStart(usize),
+    Cell(usize),
+    Sample(usize),
+}

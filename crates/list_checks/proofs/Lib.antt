@@ -1,0 +1,4 @@
+mod Blocks
+pub mod Forms
+pub mod Places
+mod Records
