@@ -1,37 +1,18 @@
 // The pass over a component's horizontal edges.
-use crate::Frame;
-use crate::segment::horizontal_segment;
+use filter::Component;
 use filter::horiz_band_end;
-use segments::Component;
+use segments::Frame;
+use strips::horizontal_strip;
 ghost use mathlib.Core.Path.{_≡_};
 ghost use Prim.Native.Nat.{_+_, _-_, _*_, _%_, _≤_, _<_};
 ghost use lib.ListN.{length};
-ghost use Rattle.filter.specs.Kernel.{kernel};
-ghost use Rattle.passes.specs.Ready.{Ready};
+ghost use Rattle.filter.specs.Bands.{Seam};
+ghost use Rattle.filter.specs.Segment.{horizontal};
+ghost use Rattle.strips.specs.Passed.{passFor};
+ghost use Rattle.picture.specs.Lent.{given, left};
 ghost use Rattle.picture.specs.Plane.{at};
-ghost use Rattle.planes.specs.Rows.{seen, Rows, Holds, Cut, crosswise};
-ghost use Rattle.segments.specs.Sides.{horizontalSegment};
-
-// The horizontal edge above row `edge`: `s` holds the four rows above it and the four from it on.
-fn horizontal_strip(
-    s: &mut [u16],
-    cells: &[u8],
-    slices: &[u8],
-    starts: &[u16],
-    k: Component,
-    f: Frame,
-    edge: usize,
-)
-    requires { ⌜ Ready k f (now cells) (now slices) ⌝ }
-    requires { ⌜ (length (now s) ≡ 8 * f .w) × (edge % 8 ≡ 0) × (8 ≤ edge) × (edge < f .h) ⌝ }
-    ensures { λ _. ⌜ Rows (f .w) (edge - 4) (edge + 4) (now (s .exit)) (crosswise kernel (f .h) (horizontalSegment k (now (cells .entry)) (now (slices .entry)) (now (starts .entry)) (f .log2) (f .width)) (seen (f .w) (edge - 4) (now (s .entry)))) ⌝ }
-{
-    let mut x = 0;
-    while x < f.w {
-        horizontal_segment(&mut s[..], cells, slices, starts, k, f, edge, x);
-        x += 4;
-    }
-}
+ghost use Rattle.planes.specs.Rows.{Holds, Rows, seen};
+ghost use Rattle.segments.specs.Ready.{Ready};
 
 // The horizontal edges of the rows from `row0` to `row1`, strip by strip.
 fn horizontal_band(
@@ -45,14 +26,15 @@ fn horizontal_band(
     row1: usize,
 )
     requires { ⌜ Ready k f (now cells) (now slices) ⌝ }
-    requires { ⌜ (length (now s) ≡ (row1 - row0) * f .w) × (row0 ≤ row1) × (row1 ≤ f .h) ⌝ }
-    requires { ⌜ Cut (f .h) row0 × Cut (f .h) row1 ⌝ }
-    ensures { λ _. ⌜ Rows (f .w) row0 row1 (now (s .exit)) (crosswise kernel (f .h) (horizontalSegment k (now (cells .entry)) (now (slices .entry)) (now (starts .entry)) (f .log2) (f .width)) (seen (f .w) row0 (now (s .entry)))) ⌝ }
+    requires { ⌜ (length (now s) ≡ (row1 - row0) * f .columns) × (row0 ≤ row1) × (row1 ≤ f .rows) ⌝ }
+    requires { ⌜ Seam (f .rows) row0 × Seam (f .rows) row1 ⌝ }
+    ensures { λ _. ⌜ Rows (f .columns) row0 row1 (left s)
+        (passFor horizontal k f (given cells) (given slices) (given starts) (seen (f .columns) row0 (given s))) ⌝ }
 {
     let mut e = (row0 / 8 + 1) * 8;
     while e < row1 {
-        let a = (e - 4 - row0) * f.w;
-        let b = (e + 4 - row0) * f.w;
+        let a = (e - 4 - row0) * f.columns;
+        let b = (e + 4 - row0) * f.columns;
         horizontal_strip(&mut s[a..b], cells, slices, starts, k, f, e);
         e += 8;
     }
@@ -66,17 +48,17 @@ pub fn horizontal_pass(
     starts: &[u16],
     k: Component,
     f: Frame,
-    height: usize,
 )
     requires { ⌜ Ready k f (now cells) (now slices) ⌝ }
-    requires { ⌜ (length (now s) ≡ f .h * f .w) × (0 < height) × (height ≤ 64) ⌝ }
-    ensures { λ _. ⌜ Holds (f .w) (f .h) (now (s .exit)) (crosswise kernel (f .h) (horizontalSegment k (now (cells .entry)) (now (slices .entry)) (now (starts .entry)) (f .log2) (f .width)) (at (now (s .entry)) (f .w))) ⌝ }
+    requires { ⌜ length (now s) ≡ f .rows * f .columns ⌝ }
+    ensures { λ _. ⌜ Holds (f .columns) (f .rows) (left s)
+        (passFor horizontal k f (given cells) (given slices) (given starts) (at (given s) (f .columns))) ⌝ }
 {
     let mut r = 0;
-    while r < f.h {
-        let end = horiz_band_end(f.h, height, r);
-        let a = r * f.w;
-        let b = end * f.w;
+    while r < f.rows {
+        let end = horiz_band_end(f.rows, f.band, r);
+        let a = r * f.columns;
+        let b = end * f.columns;
         horizontal_band(&mut s[a..b], cells, slices, starts, k, f, r, end);
         r = end;
     }

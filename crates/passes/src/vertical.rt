@@ -1,38 +1,17 @@
 // The pass over a component's vertical edges.
-use crate::Frame;
-use crate::segment::vertical_segment;
+use filter::Component;
 use filter::ctb_band_end;
-use segments::Component;
+use segments::Frame;
+use strips::vertical_strip;
 ghost use mathlib.Core.Path.{_≡_};
-ghost use Prim.Native.Nat.{_+_, _-_, _*_, _%_, _≤_, _<_};
+ghost use Prim.Native.Nat.{_+_, _-_, _*_, _%_, _≤_};
 ghost use lib.ListN.{length};
-ghost use Rattle.filter.specs.Kernel.{kernel};
-ghost use Rattle.filter.specs.Pass.{pass};
-ghost use Rattle.passes.specs.Ready.{Ready};
+ghost use Rattle.filter.specs.Segment.{vertical};
+ghost use Rattle.strips.specs.Passed.{passFor};
+ghost use Rattle.picture.specs.Lent.{given, left};
 ghost use Rattle.picture.specs.Plane.{at};
-ghost use Rattle.planes.specs.Rows.{seen, Rows, Holds};
-ghost use Rattle.segments.specs.Sides.{verticalSegment};
-
-// The vertical edges of the four rows from `row`, of which `s` holds the samples.
-fn vertical_strip(
-    s: &mut [u16],
-    cells: &[u8],
-    slices: &[u8],
-    starts: &[u16],
-    k: Component,
-    f: Frame,
-    row: usize,
-)
-    requires { ⌜ Ready k f (now cells) (now slices) ⌝ }
-    requires { ⌜ (length (now s) ≡ 4 * f .w) × (row % 4 ≡ 0) × (row + 4 ≤ f .h) ⌝ }
-    ensures { λ _. ⌜ Rows (f .w) row (row + 4) (now (s .exit)) (pass kernel (f .w) (verticalSegment k (now (cells .entry)) (now (slices .entry)) (now (starts .entry)) (f .log2) (f .width)) (seen (f .w) row (now (s .entry)))) ⌝ }
-{
-    let mut e = 8;
-    while e < f.w {
-        vertical_segment(&mut s[..], cells, slices, starts, k, f, row, e);
-        e += 8;
-    }
-}
+ghost use Rattle.planes.specs.Rows.{Holds, Rows, seen};
+ghost use Rattle.segments.specs.Ready.{Ready};
 
 // The vertical edges of the rows from `row0` to `row1`, of which `s` holds the samples, strip by strip.
 fn vertical_band(
@@ -46,13 +25,15 @@ fn vertical_band(
     row1: usize,
 )
     requires { ⌜ Ready k f (now cells) (now slices) ⌝ }
-    requires { ⌜ (length (now s) ≡ (row1 - row0) * f .w) × (row0 % 4 ≡ 0) × (row1 % 4 ≡ 0) × (row1 ≤ f .h) ⌝ }
-    ensures { λ _. ⌜ Rows (f .w) row0 row1 (now (s .exit)) (pass kernel (f .w) (verticalSegment k (now (cells .entry)) (now (slices .entry)) (now (starts .entry)) (f .log2) (f .width)) (seen (f .w) row0 (now (s .entry)))) ⌝ }
+    requires { ⌜ (length (now s) ≡ (row1 - row0) * f .columns)
+        × (row0 % 4 ≡ 0) × (row1 % 4 ≡ 0) × (row1 ≤ f .rows) ⌝ }
+    ensures { λ _. ⌜ Rows (f .columns) row0 row1 (left s)
+        (passFor vertical k f (given cells) (given slices) (given starts) (seen (f .columns) row0 (given s))) ⌝ }
 {
     let mut r = row0;
     while r < row1 {
-        let a = (r - row0) * f.w;
-        let b = (r + 4 - row0) * f.w;
+        let a = (r - row0) * f.columns;
+        let b = (r + 4 - row0) * f.columns;
         vertical_strip(&mut s[a..b], cells, slices, starts, k, f, r);
         r += 4;
     }
@@ -66,17 +47,17 @@ pub fn vertical_pass(
     starts: &[u16],
     k: Component,
     f: Frame,
-    height: usize,
 )
     requires { ⌜ Ready k f (now cells) (now slices) ⌝ }
-    requires { ⌜ (length (now s) ≡ f .h * f .w) × (height % 4 ≡ 0) × (0 < height) × (height ≤ 64) ⌝ }
-    ensures { λ _. ⌜ Holds (f .w) (f .h) (now (s .exit)) (pass kernel (f .w) (verticalSegment k (now (cells .entry)) (now (slices .entry)) (now (starts .entry)) (f .log2) (f .width)) (at (now (s .entry)) (f .w))) ⌝ }
+    requires { ⌜ length (now s) ≡ f .rows * f .columns ⌝ }
+    ensures { λ _. ⌜ Holds (f .columns) (f .rows) (left s)
+        (passFor vertical k f (given cells) (given slices) (given starts) (at (given s) (f .columns))) ⌝ }
 {
     let mut r = 0;
-    while r < f.h {
-        let end = ctb_band_end(f.h, height, r);
-        let a = r * f.w;
-        let b = end * f.w;
+    while r < f.rows {
+        let end = ctb_band_end(f.rows, f.band, r);
+        let a = r * f.columns;
+        let b = end * f.columns;
         vertical_band(&mut s[a..b], cells, slices, starts, k, f, r, end);
         r = end;
     }

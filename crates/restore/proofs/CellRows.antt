@@ -8,10 +8,11 @@ use native.Mathlib.Nat.{add-mul, div-eq-of-lt-le}
 use native.Mathlib.Omega.{arith}
 use lib.ListN.{length, getD, set, length-set}
 use lib.Seq.{getD-set-same, getD-set-other}
+use Rattle.ints.proofs.Laws.{either}
 use Rattle.picture.specs.Cell.{suppressed, cellAt, cellNumber}
-use Rattle.planes.proofs.Index.{lt-or-le, row-le}
+use Rattle.picture.proofs.Index.{row-le}
 use Rattle.planes.proofs.Parts.{part, length-part, part-at}
-use Rattle.restore.specs.Code.{RowRestored, LineRestored}
+use Rattle.restore.specs.CellRows.{RowRestored, LineRestored}
 use Rattle.restore.specs.Restored.{sampleOf}
 
 -- ---- the row that the mark selects
@@ -35,18 +36,20 @@ module _ (at : ℕ) (r : List ℕ) where
   put k j ys e h = ap (λ (i : ℕ). getD (set ys j (getD r k 0)) i 0) (sym e) ∙ getD-set-same ys j (getD r k 0) 0 h
 
   -- a sample that is there stays, also where it is stored once more
-  kept : (m k j : ℕ) (ys : List ℕ) → j ≡ at + k → j < length ys → getD ys (at + m) 0 ≡ getD r m 0 → getD (set ys j (getD r k 0)) (at + m) 0 ≡ getD r m 0
+  kept : (m k j : ℕ) (ys : List ℕ) → j ≡ at + k → j < length ys → getD ys (at + m) 0 ≡ getD r m 0
+      → getD (set ys j (getD r k 0)) (at + m) 0 ≡ getD r m 0
   kept m k j ys e h g =
       ⊎-elim (λ less. getD-set-other ys j (at + m) (getD r k 0) 0 (λ z. omega arith) ∙ g)
       (λ le.
       ⊎-elim (λ more. getD-set-other ys j (at + m) (getD r k 0) 0 (λ z. omega arith) ∙ g)
-      (λ ge. let q : m ≡ k = omega arith in rw q (put k j ys e h)) (lt-or-le k m))
-      (lt-or-le m k)
+      (λ ge. let q : m ≡ k = omega arith in rw q (put k j ys e h)) (either k m))
+      (either m k)
 
   -- the list after the four stores
   abbrev pub stored : ℕ → List ℕ → List ℕ
   stored count xs =
-      set (set (set (set xs at (getD r 0 0)) (at + 1) (getD r 1 0)) (at + count - 2) (getD r (count - 2) 0)) (at + count - 1) (getD r (count - 1) 0)
+      set (set (set (set xs at (getD r 0 0)) (at + 1) (getD r 1 0)) (at + count - 2) (getD r (count - 2) 0))
+      (at + count - 1) (getD r (count - 1) 0)
 
   module _ (count : ℕ) (xs : List ℕ) (room : at + count ≤ length xs) (low : 2 ≤ count) (high : count ≤ 4) where
     abbrev s0 : List ℕ
@@ -87,19 +90,23 @@ module _ (at : ℕ) (r : List ℕ) where
         ⊎-elim
         (λ near.
         ⊎-elim (λ zero. subst Here (omega arith) (then3 0 (then2 0 (then1 0 first))))
-        (λ one. subst Here (omega arith) (then3 1 (then2 1 second))) (lt-or-le k 1))
+        (λ one. subst Here (omega arith) (then3 1 (then2 1 second))) (either k 1))
         (λ far.
-        ⊎-elim (λ less. subst Here (omega arith) (then3 (count - 2) third)) (λ last. subst Here (omega arith) fourth) (lt-or-le (k + 1) count))
-        (lt-or-le k 2)
+        ⊎-elim (λ less. subst Here (omega arith) (then3 (count - 2) third)) (λ last. subst Here (omega arith) fourth)
+        (either (k + 1) count))
+        (either k 2)
 
     other : (i : ℕ) → (i < at) ⊎ (at + count ≤ i) → getD (stored count xs) i 0 ≡ getD xs i 0
     other i o =
-        getD-set-other s2 (at + count - 1) i (getD r (count - 1) 0) 0 (λ z. ⊎-elim (λ p. omega arith) (λ p. omega arith) o)
-        ∙ getD-set-other s1 (at + count - 2) i (getD r (count - 2) 0) 0 (λ z. ⊎-elim (λ p. omega arith) (λ p. omega arith) o)
+        getD-set-other s2 (at + count - 1) i (getD r (count - 1) 0) 0
+        (λ z. ⊎-elim (λ p. omega arith) (λ p. omega arith) o)
+        ∙ getD-set-other s1 (at + count - 2) i (getD r (count - 2) 0) 0
+        (λ z. ⊎-elim (λ p. omega arith) (λ p. omega arith) o)
         ∙ getD-set-other s0 (at + 1) i (getD r 1 0) 0 (λ z. ⊎-elim (λ p. omega arith) (λ p. omega arith) o)
         ∙ getD-set-other xs at i (getD r 0 0) 0 (λ z. ⊎-elim (λ p. omega arith) (λ p. omega arith) o)
 
-    pub row-stored : (mark : Bool) (os : List ℕ) → mark ≡ true → ((k : ℕ) → k < count → getD r k 0 ≡ getD os (at + k) 0)
+    pub row-stored : (mark : Bool) (os : List ℕ) → mark ≡ true
+        → ((k : ℕ) → k < count → getD r k 0 ≡ getD os (at + k) 0)
         → RowRestored at count mark os xs (stored count xs)
     row-stored mark os m is = record {
       within = λ k h. rw m (within k h ∙ is k h);
@@ -113,15 +120,18 @@ row-left at count mark os xs m = record { within = λ k h. rw m; left = λ i h. 
 -- ---- a row of a plane, cell by cell
 
 -- the samples before t are done
-pub record LineDone (pcm : Bool) (cells : List ℕ) (width row across : ℕ) (os xs : List ℕ) (t : ℕ) (ys : List ℕ) : Type 0 where
-  pub done : (x : ℕ) → x < t → getD ys x 0 ≡ sampleOf pcm cells (cellNumber width (x / across) row) (getD os x 0) (getD xs x 0)
+pub record LineDone (pcm : Bool) (cells : List ℕ) (width row across : ℕ) (os xs : List ℕ) (t : ℕ)
+    (ys : List ℕ) : Type 0 where
+  pub done : (x : ℕ) → x < t
+      → getD ys x 0 ≡ sampleOf pcm cells (cellNumber width (x / across) row) (getD os x 0) (getD xs x 0)
   pub left : (x : ℕ) → t ≤ x → getD ys x 0 ≡ getD xs x 0
 
 module _ (pcm : Bool) (cells : List ℕ) (width row across : ℕ) (os xs : List ℕ) where
   pub line-none : LineDone pcm cells width row across os xs (0 * across) xs
   line-none = record { done = λ x h. absurd (omega arith); left = λ x h. refl }
 
-  pub line-more : (gx n : ℕ) (mark : Bool) (ys zs : List ℕ) → n ≡ cellNumber width gx row → mark ≡ suppressed pcm (cellAt cells n)
+  pub line-more : (gx n : ℕ) (mark : Bool) (ys zs : List ℕ) → n ≡ cellNumber width gx row
+      → mark ≡ suppressed pcm (cellAt cells n)
       → LineDone pcm cells width row across os xs (gx * across) ys → RowRestored (gx * across) across mark os ys zs
       → LineDone pcm cells width row across os xs ((gx + 1) * across) zs
   line-more gx n mark ys zs number is u w =
@@ -140,7 +150,7 @@ module _ (pcm : Bool) (cells : List ℕ) (width row across : ℕ) (os xs : List 
             ∙ ap (λ (i : ℕ). cond mark (getD os i 0) (getD ys i 0)) (sym e)
             ∙ ap₂ (λ (m : Bool) (v : ℕ). cond m (getD os x 0) v) is (u .left x now)
             ∙ ap (λ (m : ℕ). sampleOf pcm cells m (getD os x 0) (getD xs x 0)) cell)
-            (lt-or-le x (gx * across));
+            (either x (gx * across));
         left = λ x h. w .right x (omega arith) ∙ u .left x (omega arith);
       }
 

@@ -1,19 +1,22 @@
 -- A plane restored row by row: each row is lent, and comes back restored.
 use Prim.Native.Nat.{ℕ, _+_, _-_, _*_, _/_, _≤_, _<_}
-use mathlib.Core.Path.{_≡_, ap, _∙_}
+use mathlib.Core.Path.{_≡_, refl, sym, ap, _∙_}
 use mathlib.Core.Bool.{Bool}
 use mathlib.Core.List.{List}
-use native.Mathlib.Nat.{add-mul, mul-le-mul, div-lt-iff-lt-mul}
+use native.Mathlib.Nat.{add-mul, mul-le-mul}
 use native.Mathlib.Omega.{arith}
 use lib.ListN.{length, getD}
-use Rattle.picture.specs.Cell.{cellNumber}
+use Rattle.filter.specs.declared.Component.{Component}
 use Rattle.picture.specs.Plane.{Plane, at}
+use Rattle.picture.specs.Scale.{fromLuma, toLuma, cellOf}
+use Rattle.picture.proofs.Index.{row-step}
 use Rattle.planes.specs.Rows.{seen, Rows}
-use Rattle.planes.proofs.Bands.{Local}
-use Rattle.planes.proofs.Index.{row-step}
 use Rattle.planes.proofs.Parts.{part, length-part, part-at}
-use Rattle.restore.specs.Code.{LineLent, LineRestored, PlaneLent, restoredCells}
-use Rattle.restore.specs.Restored.{sampleOf}
+use Rattle.segments.specs.declared.Frame.{Frame}
+use Rattle.segments.specs.Sides.{acrossFor, downFor}
+use Rattle.restore.specs.CellRows.{LineLent, LineRestored}
+use Rattle.restore.specs.Restored.{Restorable, restoredFor}
+use Rattle.restore.proofs.Restored.{cell-of, few-samples}
 
 -- row r of a list of rows of w samples
 abbrev pub rowOf : ℕ → ℕ → List ℕ → List ℕ
@@ -23,48 +26,56 @@ rowOf w r xs = part (r * w) ((r + 1) * w - r * w) xs
 pub row-end : (w h r : ℕ) → r < h → ((r + 1) * w ≡ r * w + w) × (r * w + w ≤ h * w)
 row-end w h r less = let s : (r + 1) * w ≡ r * w + 1 * w = add-mul r 1 w in (omega arith, row-step w less)
 
-module _ (width height across down : ℕ) (plane original cells : List ℕ) (lent : PlaneLent width height across down plane original cells) where
-  -- the plane's columns and rows, and the cells
-  pub few-columns : width * across ≤ 2048 * 4
-  few-columns = mul-le-mul (lent .wide) (lent .across-high)
+module _ (k : Component) (f : Frame) {plane original cells : List ℕ} (lent : Restorable k f plane original cells) where
+  abbrev width : ℕ
+  width = f .«cell_columns» .0
 
-  pub few-rows : height * down ≤ 2048 * 4
-  few-rows = mul-le-mul (lent .high) (lent .down-high)
+  abbrev w : ℕ
+  w = f .columns
 
-  few-cells : height * width ≤ 2048 * 2048
+  few-cells : f .«cell_rows» * width ≤ 2048 * 2048
   few-cells = mul-le-mul (lent .high) (lent .wide)
 
-  pub line-lent : (y : ℕ) (xs : List ℕ) → y < height * down → length xs ≡ length plane
-      → LineLent width (y / down) across (rowOf (width * across) y xs) (rowOf (width * across) y original) cells
-  line-lent y xs less long =
-      let e = row-end (width * across) (height * down) y less in
-      let r : y / down * width + width ≤ height * width = row-step width (div-lt-iff-lt-mul (lent .down-low) .1 less) in
-      let f = few-cells in
-      record {
-        across-low = lent .across-low;
-        across-high = lent .across-high;
-        line-long = length-part (y * (width * across)) ((y + 1) * (width * across) - y * (width * across)) xs (omega arith) ∙ omega arith;
-        original-long = length-part (y * (width * across)) ((y + 1) * (width * across) - y * (width * across)) original (omega arith) ∙ omega arith;
-        cells-long = omega arith;
-        cells-few = omega arith;
-      }
+  -- row y, its cells in row `row` of cells with `across` samples each
+  module _ (y row across : ℕ) (less : y < f .rows) (er : row ≡ cellOf (toLuma (downFor k) y))
+      (ea : across ≡ fromLuma (acrossFor k) 4) where
+    columns : w ≡ width * across
+    columns = lent .columns-are ∙ ap (λ (n : ℕ). width * n) (sym ea)
 
--- restoration goes sample by sample
-pub restored-local : (pcm : Bool) (cells : List ℕ) (width across down : ℕ) (O : Plane) (w r q : ℕ) → Local w r q (restoredCells pcm cells width across down O)
-unfolding restoredCells
-restored-local pcm cells width across down O w r q P Q same x y d =
-    ap (sampleOf pcm cells (cellNumber width (x / across) (y / down)) (O x y)) (same x y d)
+    abbrev ends : ((y + 1) * w ≡ y * w + w) × (y * w + w ≤ f .rows * w)
+    ends = row-end w (f .rows) y less
 
--- a row that was lent and restored is that row of the plane restored
-pub line-row : (pcm : Bool) (cells : List ℕ) (width across down h r : ℕ) (os xs ys : List ℕ) → r < h → h * (width * across) ≤ length os
-    → LineRestored pcm cells width (r / down) across (rowOf (width * across) r os) (rowOf (width * across) r xs) ys
-    → Rows (width * across) r (r + 1) ys
-    (restoredCells pcm cells width across down (at os (width * across)) (seen (width * across) r (rowOf (width * across) r xs)))
-unfolding restoredCells at
-line-row pcm cells width across down h r os xs ys less long f x y hx lo hi =
-    let w : ℕ = width * across in
-    let e : y ≡ r = omega arith in
-    let z : (r - r) * w + x ≡ x = let q : (r - r) * w ≡ 0 * w = ap (λ (n : ℕ). n * w) (omega arith) in omega arith in
-    let room = row-end w h r less in
-    let o : getD (rowOf w r os) x 0 ≡ getD os (r * w + x) 0 = part-at (r * w) ((r + 1) * w - r * w) os (omega arith) x (omega arith) in
-    rw (e, z, ← o) (f x hx)
+    line-long : (xs : List ℕ) → length xs ≡ f .rows * w → length (rowOf w y xs) ≡ width * across
+    line-long xs long =
+        let e = ends in
+        length-part (y * w) ((y + 1) * w - y * w) xs (omega arith) ∙ omega (arith, columns)
+
+    pub line-lent : (xs : List ℕ) → length xs ≡ length plane
+        → LineLent width row across (rowOf w y xs) (rowOf w y original) cells
+    line-lent xs long =
+        let r : row * width + width ≤ f .«cell_rows» * width = row-step width (omega (arith, lent .down y less)) in
+        let few = few-samples (acrossFor k) (lent .sampled) in
+        record {
+          across-low = omega arith;
+          across-high = omega arith;
+          line-long = line-long xs (long ∙ lent .plane-long);
+          original-long = line-long original (lent .original-long);
+          cells-long = omega (arith, lent .cells-long);
+          cells-few = omega (arith, few-cells);
+        }
+
+    -- a row that was lent and restored is that row of the plane restored
+    pub line-row : (pcm : Bool) (xs ys : List ℕ)
+        → LineRestored pcm cells width row across (rowOf w y original) (rowOf w y xs) ys
+        → Rows w y (y + 1) ys (restoredFor pcm cells k f (at original w) (seen w y (rowOf w y xs)))
+    unfolding restoredFor at
+    line-row pcm xs ys is x y′ hx lo hi =
+        let e : y′ ≡ y = omega arith in
+        let z : (y - y) * w + x ≡ x =
+        let q : (y - y) * w ≡ 0 * w = ap (λ (n : ℕ). n * w) (omega arith) in omega arith in
+        let room = ends in
+        let o : getD (rowOf w y original) x 0 ≡ getD original (y * w + x) 0 =
+        part-at (y * w) ((y + 1) * w - y * w) original (omega (arith, lent .original-long)) x (omega arith) in
+        let cx : cellOf (toLuma (acrossFor k) x) ≡ x / across =
+        cell-of (acrossFor k) x (lent .sampled) ∙ ap (λ (n : ℕ). x / n) (sym ea) in
+        rw (e, z, ← o, cx, ← er) (is x (omega (arith, columns)))

@@ -1,48 +1,41 @@
--- Document 01, 'Restoration': "After each pass a held cell has its original samples again", in terms of what the code is lent. The Rust's word
--- for held is suppressed. proofs/Restored.antt shows that `restoredFrom` is `restored` of the filter's definition.
-use Prim.Native.Nat.{ℕ, _*_, _/_, _<_}
+-- Document 01, 'Restoration': "After each pass a held cell has its original samples again", in terms of what the code
+-- is given. The Rust's word for held is suppressed. proofs/Restored.antt shows that `restoredFor` is `restored` of
+-- the filter's definition.
+use Prim.Native.Nat.{ℕ, _*_, _/_, _≤_, _<_}
 use mathlib.Core.Path.{_≡_}
 use mathlib.Core.Bool.{Bool, true, false, cond}
 use mathlib.Core.List.{List}
 use lib.ListN.{length}
-use Rattle.picture.specs.Accepted.{SizeOk}
+use Rattle.filter.specs.declared.Component.{Component}
 use Rattle.picture.specs.Cell.{suppressed, cellAt, cellNumber}
-use Rattle.picture.specs.Picture.{Picture, planeOf}
-use Rattle.picture.specs.Plane.{Plane, at}
-use Rattle.picture.specs.Scale.{Component, Sampling, samplingAcross, samplingDown, fromLuma, toLuma, cellOf}
-use Rattle.planes.specs.Rows.{Holds}
+use Rattle.picture.specs.Plane.{Plane}
+use Rattle.picture.specs.Scale.{fromLuma, toLuma, cellOf}
+use Rattle.segments.specs.declared.Frame.{Frame}
+use Rattle.segments.specs.Sides.{acrossFor, downFor}
 
 -- a sample of cell n: the original one where the cell is suppressed, else the filtered one
 abbrev pub sampleOf : Bool → List ℕ → ℕ → ℕ → ℕ → ℕ
 sampleOf pcm cells n original filtered = cond (suppressed pcm (cellAt cells n)) original filtered
 
--- the filtered plane F with the samples of O in every suppressed cell: `width` cells to a row; the plane's samplings across and down.
--- "A chroma sample belongs to the cell of its scaled luma position."
-unfoldable pub restoredFrom : Bool → List ℕ → ℕ → Sampling → Sampling → Plane → Plane → Plane
-restoredFrom pcm cells width across down O F x y =
-    sampleOf pcm cells (cellNumber width (cellOf (toLuma across x)) (cellOf (toLuma down y))) (O x y) (F x y)
+-- the filtered plane F with the samples of O in every suppressed cell. "A chroma sample belongs to the cell of its
+-- scaled luma position."
+unfoldable pub restoredFor : Bool → List ℕ → Component → Frame → Plane → Plane → Plane
+restoredFor pcm cells k f O F x y =
+    sampleOf pcm cells
+    (cellNumber (f .«cell_columns» .0) (cellOf (toLuma (acrossFor k) x)) (cellOf (toLuma (downFor k) y))) (O x y)
+    (F x y)
 
--- what is lent for a plane of a picture of w by h luma samples: the plane, its original and the cell records, each whole
-pub record Lent (w h : ℕ) (across down : Sampling) (plane original cells : List ℕ) : Type 0 where
-  pub width : SizeOk w
-  pub height : SizeOk h
-  pub plane-long : length plane ≡ fromLuma across w * fromLuma down h
-  pub original-long : length original ≡ fromLuma across w * fromLuma down h
-  pub cells-long : length cells ≡ 8 * (cellOf w * cellOf h)
-
--- `after` is the plane `before` of that picture, restored from `original`
-pub record Restored (pcm : Bool) (cells : List ℕ) (w h : ℕ) (across down : Sampling) (original before after : List ℕ) : Type 0 where
-  pub len : length after ≡ length before
-  pub holds :
-      Holds (fromLuma across w) (fromLuma down h) after
-      (restoredFrom pcm cells (cellOf w) across down (at original (fromLuma across w)) (at before (fromLuma across w)))
-
--- the same of a component's plane of a picture
-abbrev pub RestoredIn : Picture → Component → List ℕ → List ℕ → Type 0
-RestoredIn p c before after =
-    Restored (p .settings .pcm-loop-filter-disabled) (p .cells) (p .width) (p .height)
-    (samplingAcross (p .settings .format) c) (samplingDown (p .settings .format) c)
-    (planeOf (p .originals) c) before after
+-- what is lent for a plane: it and its original whole, and the records of all cells that its samples lie in
+pub record Restorable (k : Component) (f : Frame) (plane original cells : List ℕ) : Type 0 where
+  pub sampled : 0 < fromLuma (acrossFor k) 4
+  pub columns-are : f .columns ≡ f .«cell_columns» .0 * fromLuma (acrossFor k) 4
+  pub rows-most : f .rows ≤ 8192
+  pub wide : f .«cell_columns» .0 ≤ 2048
+  pub high : f .«cell_rows» ≤ 2048
+  pub down : (y : ℕ) → y < f .rows → toLuma (downFor k) y < 4 * f .«cell_rows»
+  pub plane-long : length plane ≡ f .rows * f .columns
+  pub original-long : length original ≡ f .rows * f .columns
+  pub cells-long : 8 * (f .«cell_rows» * f .«cell_columns» .0) ≤ length cells
 
 -- a suppressed cell among the cell records
 pub record SuppressedCell (pcm : Bool) (cells : List ℕ) : Type 0 where

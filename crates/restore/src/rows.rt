@@ -6,7 +6,8 @@ ghost use mathlib.Core.Path.{_≡_};
 ghost use mathlib.Core.Bool.{cond};
 ghost use Prim.Native.Nat.{_+_, _≤_};
 ghost use lib.ListN.{length, take, drop};
-ghost use Rattle.restore.specs.Code.{RowRestored, LineRestored, PlaneRestored, LineLent, PlaneLent};
+ghost use Rattle.picture.specs.Lent.{given, left};
+ghost use Rattle.restore.specs.CellRows.{RowRestored, LineRestored, LineLent};
 
 // The cell row from `at` of the plane that the mark selects.
 pub fn cell_row<'a>(
@@ -17,7 +18,7 @@ pub fn cell_row<'a>(
     suppressed: bool,
 ) -> &'a [u16]
     requires { ⌜ (at + count ≤ length (now original)) × (at + count ≤ length (now filtered)) ⌝ }
-    ensures { λ r. ⌜ now r ≡ take count (drop at (cond suppressed (now (original .entry)) (now (filtered .entry)))) ⌝ }
+    ensures { λ r. ⌜ now r ≡ take count (drop at (cond suppressed (given original) (given filtered))) ⌝ }
 {
     let end = at + count;
     if suppressed {
@@ -29,8 +30,9 @@ pub fn cell_row<'a>(
 
 // One cell row in place. The filtered row is there already.
 fn restore_row(line: &mut [u16], original: &[u16], at: usize, count: usize, suppressed: bool)
-    requires { ⌜ (at + count ≤ length (now original)) × (at + count ≤ length (now line)) × (2 ≤ count) × (count ≤ 4) ⌝ }
-    ensures { λ _. ⌜ RowRestored at count suppressed (now (original .entry)) (now (line .entry)) (now (line .exit)) ⌝ }
+    requires { ⌜ (at + count ≤ length (now original)) × (at + count ≤ length (now line)) ⌝ }
+    requires { ⌜ (2 ≤ count) × (count ≤ 4) ⌝ }
+    ensures { λ _. ⌜ RowRestored at count suppressed (given original) (given line) (left line) ⌝ }
 {
     let row = cell_row(original, &line[..], at, count, suppressed);
     if suppressed {
@@ -48,7 +50,7 @@ fn restore_row(line: &mut [u16], original: &[u16], at: usize, count: usize, supp
 }
 
 // One row of a plane, of the cells in one row of cells: `width` cells with `across` samples each.
-fn restore_line(
+pub(crate) fn restore_line(
     line: &mut [u16],
     original: &[u16],
     cells: &[u8],
@@ -58,46 +60,13 @@ fn restore_line(
     across: usize,
 )
     requires { ⌜ LineLent (width .0) row across (now line) (now original) (now cells) ⌝ }
-    ensures { λ _. ⌜ LineRestored pcm (now (cells .entry)) (width .0) row across (now (original .entry)) (now (line .entry)) (now (line .exit)) ⌝ }
+    ensures { λ _. ⌜ LineRestored pcm (given cells) (width .0) row across (given original) (given line) (left line) ⌝ }
 {
     let mut gx = 0;
     while gx < width.0 {
         let n = cell_number(width, CellColumn(gx), row);
         let suppressed = sample_suppressed(cells, pcm, n);
-        restore_row(&mut line[..], original, gx * across, across, suppressed);
+        restore_row(line, original, gx * across, across, suppressed);
         gx += 1;
-    }
-}
-
-// A plane in place: `width` by `height` cells, each of `across` by `down` samples.
-pub fn restore_plane(
-    plane: &mut [u16],
-    original: &[u16],
-    cells: &[u8],
-    pcm: bool,
-    width: CellColumn,
-    height: usize,
-    across: usize,
-    down: usize,
-)
-    requires { ⌜ PlaneLent (width .0) height across down (now plane) (now original) (now cells) ⌝ }
-    ensures { λ _. ⌜ PlaneRestored pcm (now (cells .entry)) (width .0) height across down (now (original .entry)) (now (plane .entry)) (now (plane .exit)) ⌝ }
-{
-    let w = width.0 * across;
-    let h = height * down;
-    let mut y = 0;
-    while y < h {
-        let start = y * w;
-        let end = (y + 1) * w;
-        restore_line(
-            &mut plane[start..end],
-            &original[start..end],
-            cells,
-            pcm,
-            width,
-            y / down,
-            across,
-        );
-        y += 1;
     }
 }

@@ -1,2 +1,4 @@
 pub mod Gates
+pub mod Looks
 pub mod Pictures
+pub mod Positions

@@ -1,3 +1,5 @@
+pub mod Listed
 pub mod Between
-pub mod Pictures
 pub mod Sides
+pub mod Pictures
+pub mod Ready

@@ -1,22 +1,26 @@
-// What is filtered at one segment: the cells on its two sides, and from them its thresholds.
+// What is filtered at one segment: the cells on its two sides, and from them its filter.
+mod at;
 mod between;
 mod neighbours;
 mod scales;
 
-pub use between::segment_filter;
-pub use neighbours::flags_at;
-pub use neighbours::horizontal_sides;
-pub use neighbours::vertical_sides;
+pub use at::horizontal_filter;
+pub use at::vertical_filter;
+use filter::ChromaFilter;
+use filter::LumaFilter;
 use picture::Cell;
-pub use scales::luma_column;
-pub use scales::luma_row;
+use picture::CellColumn;
+pub use scales::luma_row_at;
 
-// What a pass has to know of the component that it filters. `offset` is the Cb or Cr offset plus 12; luma does not read it.
-pub struct Component {
-    pub luma: bool,
-    pub format: u32,
-    pub depth: u32,
-    pub offset: u8,
+// The plane that is filtered, in its own samples, with the height of a band of its passes; and the picture around it,
+// in cells, with its CTB size.
+pub struct Frame {
+    pub columns: usize,
+    pub rows: usize,
+    pub cell_columns: CellColumn,
+    pub cell_rows: usize,
+    pub log2_ctb: u32,
+    pub band: usize,
 }
 
 // The cells P and Q of a segment, and whether they lie in one tile.
@@ -29,6 +33,6 @@ pub struct Sides {
 // How a segment is filtered.
 pub enum Segment {
     Closed,
-    Luma { beta: u16, tc: u16 },
-    Chroma { tc: u16 },
+    Luma(LumaFilter),
+    Chroma(ChromaFilter),
 }

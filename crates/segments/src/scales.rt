@@ -1,5 +1,5 @@
 // From a plane's own samples to luma samples.
-use crate::Component;
+use filter::Component;
 use picture::ChromaColumn;
 use picture::LumaColumn;
 ghost use mathlib.Core.Path.{_≡_};
@@ -8,7 +8,7 @@ ghost use Rattle.picture.specs.Scale.{toLuma};
 ghost use Rattle.segments.specs.Sides.{acrossFor, downFor};
 
 // The luma column of a component's column.
-pub fn luma_column(k: Component, x: usize) -> LumaColumn
+pub(crate) fn luma_column_at(k: Component, x: usize) -> LumaColumn
     requires { ⌜ x < 2 ^ 32 ⌝ }
     ensures { λ r. ⌜ r .0 ≡ toLuma (acrossFor k) x ⌝ }
 {
@@ -19,15 +19,12 @@ pub fn luma_column(k: Component, x: usize) -> LumaColumn
 }
 
 // The luma row of a component's row.
-pub fn luma_row(k: Component, y: usize) -> usize
+pub fn luma_row_at(k: Component, y: usize) -> usize
     requires { ⌜ y < 2 ^ 32 ⌝ }
     ensures { λ r. ⌜ r ≡ toLuma (downFor k) y ⌝ }
 {
     if k.luma {
         return y;
     }
-    if k.format == 1 {
-        return 2 * y;
-    }
-    y
+    picture::luma_row(k.format, y)
 }

@@ -1,20 +1,43 @@
 -- An accepted picture has what the passes and the restoration of each of its components need.
 use Prim.Native.Nat.{ℕ, zero, suc, _*_, _%_, _^_, _≤_, _<_}
-use mathlib.Core.Path.{_≡_, refl, sym, ap, subst}
-use mathlib.Core.Bool.{Bool, false}
+use mathlib.Core.Path.{_≡_, refl, sym, _∙_, subst}
+use mathlib.Core.Bool.{Bool, true, false, cond}
+use mathlib.Core.List.{List}
 use native.Mathlib.Nat.{mul-comm}
 use native.Mathlib.Omega.{arith}
-use Rattle.filter.specs.Bands.{bandHeight}
-use Rattle.passes.specs.Ready.{Ready}
-use Rattle.picture.specs.Accepted.{Accepted}
+use borrow.Author.Tests.{ne-eqb}
+use lib.Dec.{eqb}
+use lib.ListN.{length}
+use Rattle.filter.specs.declared.Component as Code
+use Rattle.filter.specs.Answer.{Sound}
+use Rattle.picture.specs.Accepted.{Accepted, PictureOk}
 use Rattle.picture.specs.Cell.{cellAt}
-use Rattle.picture.specs.Picture.{Picture, Planes, Settings, planeOf, largestAt}
-use Rattle.picture.specs.Scale.{Component, Y, Cb, Cr, Sampling, whole, halved, absent, samplingAcross, samplingDown, fromLuma, toLuma, cellOf}
+use Rattle.picture.specs.Picture.{Picture, Planes, Settings, planeOf}
+use Rattle.picture.specs.Scale.{
+  Component,
+  Y,
+  Cb,
+  Cr,
+  Sampling,
+  whole,
+  halved,
+  absent,
+  samplingAcross,
+  samplingDown,
+  chromaAcross,
+  chromaDown,
+  fromLuma,
+  toLuma,
+  cellOf,
+}
 use Rattle.picture.specs.Slice.{sliceCount}
-use Rattle.restore.specs.Restored.{Lent, AnySuppressed}
-use Rattle.segments.specs.Pictures.{componentFor}
+use Rattle.restore.specs.declared.Restoration.{Restoration}
+use Rattle.restore.specs.Restored.{Restorable, AnySuppressed}
+use Rattle.restore.proofs.Restored.{all-cells}
+use Rattle.segments.specs.declared.Frame.{Frame}
+use Rattle.segments.specs.Pictures.{componentFor, frameFor}
+use Rattle.segments.specs.Ready.{Ready}
 use Rattle.segments.specs.Sides.{acrossFor, downFor}
-use Rattle.stage.specs.Frames.{frameFor}
 use Rattle.stage.specs.Plane.{PlaneReady}
 
 -- ---- one direction
@@ -50,88 +73,133 @@ sizes (suc (suc (suc (suc (suc zero))))) h k = omega arith
 sizes (suc (suc (suc (suc (suc (suc zero)))))) h k = omega arith
 sizes (suc (suc (suc (suc (suc (suc (suc n))))))) h k = absurd (omega arith)
 
--- ---- a component's struct and the definition's
+-- ---- a component that the picture has: luma, or chroma in a format that has it
 
-module _ (t : Settings) (pic : ℕ) where
-  pub across-is : (c : Component) → acrossFor (componentFor t pic c) ≡ samplingAcross (t .format) c
-  across-is Y = refl
-  across-is Cb = refl
-  across-is Cr = refl
-
-  pub down-is : (c : Component) → downFor (componentFor t pic c) ≡ samplingDown (t .format) c
-  down-is Y = refl
-  down-is Cb = refl
-  down-is Cr = refl
-
--- a component that the picture has: luma, or chroma in a format that has it
 abbrev pub Present : Settings → Component → Type 0
 Present t Y = Unit {0}
 Present t Cb = 0 < t .format
 Present t Cr = 0 < t .format
 
-module _ (p : Picture) (o : Planes) (ok : Accepted p o) (pic : ℕ) where
+-- a cell has samples there each way
+one-of : (t : Bool) (a b : Sampling) → 0 < fromLuma a 4 → 0 < fromLuma b 4 → 0 < fromLuma (cond t a b) 4
+one-of true a b ha hb = ha
+one-of false a b ha hb = hb
+
+chroma-across : (format : ℕ) → 0 < format → 0 < fromLuma (chromaAcross format) 4
+chroma-across format h =
+    simp (ne-eqb format 0 (λ z. omega arith)) (one-of (eqb format 3) whole halved (omega arith) (omega arith))
+
+chroma-down : (format : ℕ) → 0 < format → 0 < fromLuma (chromaDown format) 4
+chroma-down format h =
+    simp (ne-eqb format 0 (λ z. omega arith)) (one-of (eqb format 1) halved whole (omega arith) (omega arith))
+
+sampled : (t : Settings) (c : Component) → Present t c
+    → (0 < fromLuma (samplingAcross (t .format) c) 4) × (0 < fromLuma (samplingDown (t .format) c) 4)
+sampled t Y h = (omega arith, omega arith)
+sampled t Cb h = (chroma-across (t .format) h, chroma-down (t .format) h)
+sampled t Cr h = (chroma-across (t .format) h, chroma-down (t .format) h)
+
+-- ---- a component's struct and the definition's
+
+across-is : (t : Settings) (o : ℕ) (c : Component) → samplingAcross (t .format) c ≡ acrossFor (componentFor t o c)
+across-is t o Y = refl
+across-is t o Cb = refl
+across-is t o Cr = refl
+
+down-is : (t : Settings) (o : ℕ) (c : Component) → samplingDown (t .format) c ≡ downFor (componentFor t o c)
+down-is t o Y = refl
+down-is t o Cb = refl
+down-is t o Cr = refl
+
+module _ (p : Picture) (ok : PictureOk p) (o : ℕ) (c : Component) (present : Present (p .settings) c) where
   abbrev t : Settings
   t = p .settings
 
-  depth-ok : (c : Component) → (8 ≤ componentFor t pic c .depth) × (componentFor t pic c .depth ≤ 16)
-  depth-ok Y = (ok .settings .luma-low, ok .settings .luma-high)
-  depth-ok Cb = (ok .settings .chroma-low, ok .settings .chroma-high)
-  depth-ok Cr = (ok .settings .chroma-low, ok .settings .chroma-high)
+  -- what holds of the definition's samplings holds of the struct's
+  by-across : (P : Sampling → Type 0) → P (samplingAcross (t .format) c) → P (acrossFor (componentFor t o c))
+  by-across P h = subst P (across-is t o c) h
 
-  largest-ok : (c : Component) → frameFor p c .most ≡ largestAt (componentFor t pic c .depth)
-  largest-ok Y = refl
-  largest-ok Cb = refl
-  largest-ok Cr = refl
+  by-down : (P : Sampling → Type 0) → P (samplingDown (t .format) c) → P (downFor (componentFor t o c))
+  by-down P h = subst P (down-is t o c) h
 
-  format-ok : (c : Component) → Present t c → componentFor t pic c .luma ≡ false → 0 < componentFor t pic c .format
-  format-ok Y h e = absurd (let z : _≡_ {A = ℕ} 0 1 = cc in omega arith)
-  format-ok Cb h e = h
-  format-ok Cr h e = h
+  rows-inside : (y : ℕ) → y < frameFor p c .rows → toLuma (downFor (componentFor t o c)) y < 4 * cellOf (p .height)
+  rows-inside y h =
+      by-down (λ s. toLuma s y < 4 * cellOf (p .height))
+      (inside (samplingDown (t .format) c) (p .height) y (ok .height .eights) h)
+
+  columns-inside : (x : ℕ) → x < frameFor p c .columns
+      → toLuma (acrossFor (componentFor t o c)) x < 4 * cellOf (p .width)
+  columns-inside x h =
+      by-across (λ s. toLuma s x < 4 * cellOf (p .width))
+      (inside (samplingAcross (t .format) c) (p .width) x (ok .width .eights) h)
+
+  cells-long : 8 * (cellOf (p .height) * cellOf (p .width)) ≡ length (p .cells)
+  cells-long = omega (arith, ok .cells-long, mul-comm (cellOf (p .height)) (cellOf (p .width)))
 
   known : (n : ℕ) → n < cellOf (p .height) * cellOf (p .width) → (cellAt (p .cells) n) .slice < sliceCount (p .slices)
   unfolding cellAt
   known n h = ok .cells n (omega (arith, mul-comm (cellOf (p .height)) (cellOf (p .width)))) .slice
 
-  pub ready-for : (c : Component) → Ready (componentFor t pic c) (frameFor p c) (p .cells) (p .slices)
-  ready-for c =
-      let a = across-is t pic c in
-      let d = down-is t pic c in
-      record {
-        depth-low = depth-ok c .0;
-        depth-high = depth-ok c .1;
-        largest = largest-ok c;
-        ctb = ok .settings .ctb-high;
-        w4 = fours (samplingAcross (t .format) c) (p .width) (ok .width .eights);
-        h4 = fours (samplingDown (t .format) c) (p .height) (ok .height .eights);
-        w-most = let m = no-more (samplingAcross (t .format) c) (p .width) in omega (arith, ok .width .most);
-        h-most = let m = no-more (samplingDown (t .format) c) (p .height) in omega (arith, ok .height .most);
-        wide = omega (arith, ok .width .most);
-        high = omega (arith, ok .height .most);
-        across = λ x h. subst (λ (s : Sampling). toLuma s x < 4 * cellOf (p .width)) (sym a) (inside (samplingAcross (t .format) c) (p .width) x (ok .width .eights) h);
-        down = λ y h. subst (λ (s : Sampling). toLuma s y < 4 * cellOf (p .height)) (sym d) (inside (samplingDown (t .format) c) (p .height) y (ok .height .eights) h);
-        cells-long = omega (arith, ok .cells-long, mul-comm (cellOf (p .height)) (cellOf (p .width)));
-        known = known;
-      }
-
-  pub plane-ready : (c : Component) → Present t c → 0 < fromLuma (samplingDown (t .format) c) 4 → (restoring : Bool)
-      → AnySuppressed (t .pcm-loop-filter-disabled) (p .cells) restoring
-      → PlaneReady (componentFor t pic c) (frameFor p c) (p .width) (p .height) (bandHeight t c) (t .pcm-loop-filter-disabled) restoring
-      (planeOf o c) (planeOf (p .originals) c) (p .cells) (p .slices)
-  plane-ready c present rows restoring any =
-      let a = across-is t pic c in
-      let d = down-is t pic c in
+  pub ready : Ready (componentFor t o c) (frameFor p c) (p .cells) (p .slices)
+  ready =
+      let a : Sampling = samplingAcross (t .format) c in
+      let d : Sampling = samplingDown (t .format) c in
       let z = sizes (t .log2-ctb) (ok .settings .ctb-low) (ok .settings .ctb-high) in
       record {
-        ready = ready-for c;
-        lent =
-            subst (λ (s : Sampling). Lent (p .width) (p .height) s (downFor (componentFor t pic c)) (planeOf o c) (planeOf (p .originals) c) (p .cells)) (sym a)
-            (subst (λ (s : Sampling). Lent (p .width) (p .height) (samplingAcross (t .format) c) s (planeOf o c) (planeOf (p .originals) c) (p .cells)) (sym d)
-            (record { width = ok .width; height = ok .height; plane-long = ok .outputs-long c; original-long = ok .originals c; cells-long = ok .cells-long }));
-        w-is = ap (λ (s : Sampling). fromLuma s (p .width)) (sym a);
-        h-is = ap (λ (s : Sampling). fromLuma s (p .height)) (sym d);
-        format = format-ok c present;
-        fours = fours (samplingDown (t .format) c) (2 ^ t .log2-ctb) (z .0);
-        some = some-rows (samplingDown (t .format) c) (2 ^ t .log2-ctb) rows (z .1);
-        few = let m = no-more (samplingDown (t .format) c) (2 ^ t .log2-ctb) in omega arith;
-        any = any;
+        sound = sound c;
+        ctb = ok .settings .ctb-high;
+        columns4 = fours a (p .width) (ok .width .eights);
+        rows4 = fours d (p .height) (ok .height .eights);
+        columns-most = omega (arith, ok .width .most, no-more a (p .width));
+        rows-most = omega (arith, ok .height .most, no-more d (p .height));
+        band4 = fours d (2 ^ t .log2-ctb) (z .0);
+        band-some = some-rows d (2 ^ t .log2-ctb) (sampled t c present .1) (z .1);
+        band-most = omega (arith, z, no-more d (2 ^ t .log2-ctb));
+        wide = omega (arith, ok .width .most);
+        high = omega (arith, ok .height .most);
+        across = columns-inside;
+        down = rows-inside;
+        cells-long = omega (arith, cells-long);
+        known = known;
       }
+    where
+      sound : (c : Component) → Sound (componentFor t o c)
+      sound Y = record { depth-low = ok .settings .luma-low; depth-high = ok .settings .luma-high; largest-is = refl }
+      sound Cb =
+          record { depth-low = ok .settings .chroma-low; depth-high = ok .settings .chroma-high; largest-is = refl }
+      sound Cr =
+          record { depth-low = ok .settings .chroma-low; depth-high = ok .settings .chroma-high; largest-is = refl }
+
+  pub restorable : (out : List ℕ) → length out ≡ frameFor p c .columns * frameFor p c .rows
+      → Restorable (componentFor t o c) (frameFor p c) out (planeOf (p .originals) c) (p .cells)
+  restorable out long =
+      let a : Sampling = samplingAcross (t .format) c in
+      let s = sampled t c present .0 in
+      record {
+        sampled = by-across (λ s. 0 < fromLuma s 4) s;
+        columns-are =
+            by-across (λ s. frameFor p c .columns ≡ cellOf (p .width) * fromLuma s 4)
+            (all-cells a (p .width) s (ok .width .eights));
+        rows-most = ready .rows-most;
+        wide = ready .wide;
+        high = ready .high;
+        down = rows-inside;
+        plane-long = long ∙ mul-comm (frameFor p c .columns) (frameFor p c .rows);
+        original-long = ok .originals c ∙ mul-comm (frameFor p c .columns) (frameFor p c .rows);
+        cells-long = omega (arith, cells-long);
+      }
+
+-- what a component's plane is given: a struct and a frame that were worked out, and the restoration of the cells
+pub plane-ready : (p : Picture) (outputs : Planes) → Accepted p outputs → (o : ℕ) (c : Component)
+    → Present (p .settings) c
+    → {k : Code.Component} → k ≡ componentFor (p .settings) o c → {f : Frame} → f ≡ frameFor p c → {r : Restoration}
+    → (r .pcm ≡ p .settings .pcm-loop-filter-disabled)
+    × AnySuppressed (p .settings .pcm-loop-filter-disabled) (p .cells) (r .any)
+    → PlaneReady k f r (planeOf outputs c) (planeOf (p .originals) c) (p .cells) (p .slices)
+plane-ready p outputs ok o c present {k} ek {f} ef {r} told =
+    rw (ek, ef)
+    (record {
+      ready = ready p (ok .picture) o c present;
+      lent = restorable p (ok .picture) o c present (planeOf outputs c) (ok .outputs-long c);
+      any = rw (told .0) (told .1);
+    })

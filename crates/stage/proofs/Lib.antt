@@ -1,5 +1,5 @@
-pub mod Accepted
-pub mod Finished
-pub mod Offsets
-pub mod Outcome
-pub mod Steps
+mod Accepted
+mod Finished
+mod Offsets
+mod Outcome
+mod Steps

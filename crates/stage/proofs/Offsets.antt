@@ -15,7 +15,8 @@ use Rattle.picture.specs.Accepted.{OffsetOk}
 
 range : (a b : ℕ) → OffsetOk (a ⊖ b) → (b ≤ a + 12) × (a ≤ b + 12)
 range a b ok =
-    let low : lt (a ⊖ b) (neg (pos 12)) ≡ ltb (a + 12) b = simp diffs (lt-diff a b 0 12 ∙ ap (ltb (a + 12)) (zero-add b)) in
+    let low : lt (a ⊖ b) (neg (pos 12)) ≡ ltb (a + 12) b =
+    simp diffs (lt-diff a b 0 12 ∙ ap (ltb (a + 12)) (zero-add b)) in
     let high : lt (pos 12) (a ⊖ b) ≡ ltb (12 + b) a = pos-lt 12 a b in (
       ltb-false (a + 12) b (sym low ∙ le-lt _ _ (ok .least)),
       omega (arith, ltb-false (12 + b) a (sym high ∙ le-lt _ _ (ok .most))),
@@ -55,7 +56,9 @@ module _ (z x : ℤ) (e : x ≡ z) (ok : OffsetOk z) where
 
   module _ (s : ℤ) (held : s ≡ x +ℤ pos 12) where
     pub sum-casts : T (nonNeg s) × Fits w8 (natAbs s)
-    sum-casts = subst (λ (y : ℤ). T (nonNeg y) × Fits w8 (natAbs y)) (sym (held ∙ sum)) (tt, record { fits = omega (arith, shifted z ok .small) })
+    sum-casts =
+        subst (λ (y : ℤ). T (nonNeg y) × Fits w8 (natAbs y)) (sym (held ∙ sum))
+        (tt, record { fits = omega (arith, shifted z ok .small) })
 
     pub sum-back : natAbs s ⊖ 12 ≡ z
     sum-back = ap (λ (y : ℤ). natAbs y ⊖ 12) (held ∙ sum) ∙ shifted z ok .back

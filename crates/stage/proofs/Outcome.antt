@@ -6,32 +6,51 @@ use mathlib.Core.List.{List}
 use native.Mathlib.Omega.{arith}
 use borrow.Author.Tests.{eq-eqb, ne-eqb}
 use lib.ListN.{length}
-use Rattle.checks.specs.declared.Verdict as Code
-use Rattle.checks.specs.declared.Verdict.the-variants as Cases
-use Rattle.checks.specs.Numbered.{numbered}
+use Rattle.filter.specs.declared.Component as Code
 use Rattle.filter.specs.Finished.{finishedPlane, finished, outputs}
-use Rattle.picture.specs.Given.{planes}
-use Rattle.picture.specs.Ledger.{acceptance, verdict}
+use Rattle.picture.specs.Given.{planesOf}
+use Rattle.ledger.specs.declared.Verdict.{Verdict}
+use Rattle.ledger.specs.declared.Verdict.the-variants as Cases
+use Rattle.ledger.specs.Numbered.{numbered}
+use Rattle.picture.specs.Causes.{verdict}
+use Rattle.picture.specs.Ledger.{acceptance}
 use Rattle.picture.specs.Picture.{Picture, Planes, planeOf, planeWidth, planeHeight}
 use Rattle.picture.specs.Plane.{Plane, table}
 use Rattle.picture.specs.Scale.{Component, Y, Cb, Cr, chromaAcross, chromaDown, fromLuma}
 use Rattle.planes.proofs.Tables.{holds-table}
-use Rattle.segments.specs.Pictures.{componentFor, OffsetIs}
-use Rattle.stage.specs.Frames.{frameFor}
-use Rattle.stage.specs.Plane.{finishedFrom}
+use Rattle.segments.specs.declared.Frame.{Frame}
+use Rattle.segments.specs.Pictures.{componentFor, OffsetIs, frameFor}
+use Rattle.stage.specs.Plane.{finishedFor}
 use Rattle.stage.proofs.Finished.{finished-is}
 
 module _ (p : Picture) where
-  pub plane-finished : (pic : ℕ) (c : Component) → OffsetIs (p .settings) pic c → (l : List ℕ)
-      → l ≡ table (planeWidth p c) (planeHeight p c) (finishedFrom (componentFor (p .settings) pic c) (frameFor p c) (p .width) (p .settings .pcm-loop-filter-disabled) (planeOf (p .originals) c) (p .cells) (p .slices) (p .columns) (p .rows))
+  -- a plane by the struct and the frame that the code worked out
+  pub plane-finished : (o : ℕ) (c : Component) → OffsetIs (p .settings) o c → {pcm : Bool}
+      → pcm ≡ p .settings .pcm-loop-filter-disabled → {k : Code.Component} → k ≡ componentFor (p .settings) o c
+      → {f : Frame} → f ≡ frameFor p c → (l : List ℕ)
+      → l ≡ table (f .columns) (f .rows)
+      (finishedFor k f pcm (planeOf (p .originals) c) (p .cells) (p .slices) (p .columns) (p .rows))
       → l ≡ table (planeWidth p c) (planeHeight p c) (finishedPlane p c)
-  plane-finished pic c i l e = e ∙ ap (table (planeWidth p c) (planeHeight p c)) (finished-is p pic c i)
+  plane-finished o c i ep {k} ek {f} ef l e =
+      e
+      ∙ ap (λ (b : Bool). table (f .columns) (f .rows) (finished-by k f b)) ep
+      ∙ ap (λ (a : Code.Component). table (f .columns) (f .rows)
+      (finished-by a f (p .settings .pcm-loop-filter-disabled))) ek
+      ∙ ap
+      (λ (a : Frame). table (a .columns) (a .rows)
+      (finished-by (componentFor (p .settings) o c) a (p .settings .pcm-loop-filter-disabled)))
+      ef
+      ∙ ap (table (planeWidth p c) (planeHeight p c)) (finished-is p o c i)
+    where
+      finished-by : Code.Component → Frame → Bool → Plane
+      finished-by k f pcm =
+          finishedFor k f pcm (planeOf (p .originals) c) (p .cells) (p .slices) (p .columns) (p .rows)
 
   pub planes-finished : (y cb cr : List ℕ)
       → y ≡ table (planeWidth p Y) (planeHeight p Y) (finishedPlane p Y)
       → cb ≡ table (planeWidth p Cb) (planeHeight p Cb) (finishedPlane p Cb)
       → cr ≡ table (planeWidth p Cr) (planeHeight p Cr) (finishedPlane p Cr)
-      → planes y cb cr ≡ finished p
+      → planesOf y cb cr ≡ finished p
   unfolding finished
   planes-finished y cb cr ey eb er = λ i. record { y = ey i; cb = eb i; cr = er i }
 
@@ -45,18 +64,22 @@ absent-plane format w h l G e len =
 
 -- ---- what the stage leaves
 
-pub left-finished : (p : Picture) (o : Planes) (r : Code.Verdict) → numbered r ≡ verdict p o → r ≡ Cases.Accepted → (l : Planes) → l ≡ finished p → l ≡ outputs p o
+pub left-finished : (p : Picture) (o : Planes) (r : Verdict) → numbered r ≡ verdict p o → r ≡ Cases.Accepted
+    → (l : Planes) → l ≡ finished p → l ≡ outputs p o
 unfolding outputs
 left-finished p o r e a l is =
-    let zero : verdict p o .number ≡ 0 = ap (λ v. v .number) (sym e) ∙ ap (λ (v : Code.Verdict). numbered v .number) a in
+    let zero : verdict p o .number ≡ 0 = ap (λ v. v .number) (sym e) ∙ ap (λ (v : Verdict). numbered v .number) a in
     is ∙ ap (λ (t : Bool). cond t (finished p) o) (sym (eq-eqb _ _ zero))
 
-pub left-as-it-was : (p : Picture) (o : Planes) (r : Code.Verdict) → numbered r ≡ verdict p o → 0 < numbered r .number → o ≡ outputs p o
+pub left-as-it-was : (p : Picture) (o : Planes) (r : Verdict) → numbered r ≡ verdict p o → 0 < numbered r .number
+    → o ≡ outputs p o
 unfolding outputs
 left-as-it-was p o r e h =
-    let some : verdict p o .number ≡ 0 → ⊥ = λ z. let n : numbered r .number ≡ 0 = ap (λ v. v .number) e ∙ z in omega arith in
+    let some : verdict p o .number ≡ 0 → ⊥ =
+    λ z. let n : numbered r .number ≡ 0 = ap (λ v. v .number) e ∙ z in omega arith in
     ap (λ (t : Bool). cond t (finished p) o) (sym (ne-eqb _ _ some))
 
 -- an accepting verdict, of any outputs of the right lengths
-pub accepts : (p : Picture) (o : Planes) (r : Code.Verdict) → numbered r ≡ verdict p o → r ≡ Cases.Accepted → verdict p o ≡ acceptance
+pub accepts : (p : Picture) (o : Planes) (r : Verdict) → numbered r ≡ verdict p o → r ≡ Cases.Accepted
+    → verdict p o ≡ acceptance
 accepts p o r e a = sym e ∙ ap numbered a

@@ -1,7 +1,7 @@
--- The steps of one component's plane: copied, passed, restored, passed on that result, restored.
+-- The steps of one component's plane: copied, then a pass and a restoration for each direction.
 use Prim.Native.Nat.{ℕ, _+_, _*_, _%_, _^_, _≤_, _<_}
-use mathlib.Core.Path.{_≡_, refl, sym, ap, ap₂, _∙_, subst}
-use mathlib.Core.Bool.{Bool, cond}
+use mathlib.Core.Path.{_≡_, refl, sym, ap, _∙_, subst}
+use mathlib.Core.Bool.{Bool}
 use mathlib.Core.List.{List, [], _∷_, _++_}
 use mathlib.Core.Logic.{inl, inr}
 use native.Mathlib.Nat.{mul-comm, mod-eq-of-lt}
@@ -10,18 +10,21 @@ use native.Mathlib.Omega.{arith}
 use lib.ListN.{length, getD, take, set}
 use lib.Pow.{pow-mono}
 use lib.Seq.{take-suc, take-suc-set}
+use Rattle.filter.specs.declared.Component.{Component}
 use Rattle.filter.specs.Kernel.{kernel}
-use Rattle.filter.specs.Pass.{pass}
-use Rattle.passes.specs.declared.Frame.{Frame}
+use Rattle.filter.specs.Segment.{Direction, vertical, horizontal}
 use Rattle.picture.specs.Plane.{Plane, at, table}
-use Rattle.picture.specs.Scale.{Sampling, whole, chromaAcross, chromaDown, fromLuma, cellOf}
-use Rattle.planes.specs.Rows.{Holds, crosswise}
-use Rattle.planes.proofs.Bands.{horizontal-local}
+use Rattle.planes.specs.Rows.{Holds}
+use Rattle.planes.proofs.Bands.{Local, horizontal-local}
 use Rattle.planes.proofs.Tables.{holds-table, holds-then}
-use Rattle.restore.specs.Restored.{restoredFrom, Lent, Restored}
-use Rattle.segments.specs.declared.Component.{Component}
-use Rattle.segments.specs.Sides.{acrossFor, downFor, verticalSegment, horizontalSegment}
-use Rattle.stage.specs.Plane.{finishedFrom, PlaneReady}
+use Rattle.restore.specs.declared.Restoration.{Restoration}
+use Rattle.restore.specs.Restored.{restoredFor, Restorable}
+use Rattle.restore.proofs.Restored.{restored-local}
+use Rattle.segments.specs.declared.Frame.{Frame}
+use Rattle.segments.specs.Ready.{Ready}
+use Rattle.strips.specs.Passed.{passFor}
+use Rattle.stage.specs.declared.Direction as Code
+use Rattle.stage.specs.Plane.{directionOf, stepFor, finishedFor, PlaneReady}
 
 -- ---- the copy
 
@@ -34,107 +37,98 @@ copied-more from to i h len e =
     ∙ sym (take-suc from i 0 h)
     ∙ ap (λ (n : ℕ). take n from) (sym (add-one i))
 
--- ---- luma and chroma restoration are that of the component
-
-module _ (k : Component) (wide high : ℕ) where
-  abbrev LentAt : Bool → List ℕ → List ℕ → List ℕ → Type 0
-  LentAt t out original cells =
-      Lent wide high (cond t whole (chromaAcross (k .format))) (cond t whole (chromaDown (k .format))) out original cells
-
-  abbrev RestoredAt : Bool → Bool → List ℕ → List ℕ → List ℕ → List ℕ → Type 0
-  RestoredAt t pcm cells original before after =
-      Restored pcm cells wide high (cond t whole (chromaAcross (k .format))) (cond t whole (chromaDown (k .format))) original before after
-
-  pub lent-at : (t : Bool) (out original cells : List ℕ) → k .luma ≡ t → LentAt (k .luma) out original cells → LentAt t out original cells
-  lent-at t out original cells e h = subst (λ (b : Bool). LentAt b out original cells) e h
-
-  pub restored-at : (t pcm : Bool) (cells original before after : List ℕ) → k .luma ≡ t → RestoredAt t pcm cells original before after → RestoredAt (k .luma) pcm cells original before after
-  restored-at t pcm cells original before after e h = subst (λ (b : Bool). RestoredAt b pcm cells original before after) (sym e) h
-
--- what is lent stays lent when the plane changes and keeps its length
-pub lent-again : (wide high : ℕ) (s t : Sampling) (a b original cells : List ℕ) → length b ≡ length a → Lent wide high s t a original cells → Lent wide high s t b original cells
-lent-again wide high s t a b original cells len l = record {
-  width = l .width;
-  height = l .height;
-  plane-long = len ∙ l .plane-long;
-  original-long = l .original-long;
-  cells-long = l .cells-long;
-}
-
--- a plane that is lent has its samples
-pub ready-length : {k : Component} {f : Frame} {wide high height : ℕ} {pcm restoring : Bool} {out original cells slices : List ℕ}
-    → PlaneReady k f wide high height pcm restoring out original cells slices → length out ≡ f .h * f .w
-ready-length {k} {f} {wide} {high} pre =
-    pre .lent .plane-long
-    ∙ ap₂ (λ (m n : ℕ). m * n) (sym (pre .w-is)) (sym (pre .h-is))
-    ∙ mul-comm (f .w) (f .h)
-
--- ---- the largest sample and the CTB size, as the code works them out
-
--- a frame by its parts
-pub frame-is : (f : Frame) (w h m : ℕ) → w ≡ f .w → h ≡ f .h → m ≡ f .most
-    → record { w = w; h = h; width = f .width; height = f .height; log2 = f .log2; most = m } ≡ f
-frame-is f w h m ew eh em =
-    λ i. record { w = ew i; h = eh i; width = f .width; height = f .height; log2 = f .log2; most = em i }
-
-module _ (k : Component) (g f : Frame) (same : g ≡ f) (wide high : ℕ) (pcm : Bool) where
-  pub ready-as : (height n : ℕ) (restoring : Bool) (out original cells slices : List ℕ) → n ≡ height
-      → PlaneReady k f wide high height pcm restoring out original cells slices
-      → PlaneReady k g wide high n pcm restoring out original cells slices
-  ready-as height n restoring out original cells slices e pre =
-      subst (λ (i : ℕ). PlaneReady k g wide high i pcm restoring out original cells slices) (sym e)
-      (subst (λ (r : Frame). PlaneReady k r wide high height pcm restoring out original cells slices) (sym same) pre)
-
-  pub finished-as : (l original cells slices columns rows : List ℕ)
-      → l ≡ table (g .w) (g .h) (finishedFrom k g wide pcm original cells slices columns rows)
-      → l ≡ table (f .w) (f .h) (finishedFrom k f wide pcm original cells slices columns rows)
-  finished-as l original cells slices columns rows e =
-      e ∙ ap (λ (r : Frame). table (r .w) (r .h) (finishedFrom k r wide pcm original cells slices columns rows)) same
+-- ---- the CTB size, as the code works it out
 
 pub power : (n : ℕ) → n ≤ 6 → 1 * 2 ^ n % 18446744073709551616 ≡ 2 ^ n
 power n h =
     let small : 2 ^ n ≤ 2 ^ 6 = pow-mono {j = 6} h in
     mod-eq-of-lt (omega arith) ∙ omega arith
 
--- ---- the chain of a component's plane
+-- a frame of these parts
+pub frame-made : {columns rows cells-across cells-down band : ℕ} {f : Frame} → columns ≡ f .columns → rows ≡ f .rows
+    → cells-across ≡ f .«cell_columns» .0 → cells-down ≡ f .«cell_rows» → band ≡ f .band
+    → record {
+      columns = columns;
+      rows = rows;
+      «cell_columns» = record { 0 = cells-across };
+      «cell_rows» = cells-down;
+      «log2_ctb» = f .«log2_ctb»;
+      band = band;
+    }
+    ≡ f
+frame-made {f} ec er ea ed eb =
+    λ i.
+    record {
+      columns = ec i;
+      rows = er i;
+      «cell_columns» = record { 0 = ea i };
+      «cell_rows» = ed i;
+      «log2_ctb» = f .«log2_ctb»;
+      band = eb i;
+    }
 
-module _ (k : Component) (f : Frame) (wide high : ℕ) (pcm : Bool) (original cells slices columns rows : List ℕ)
-    (w-is : f .w ≡ fromLuma (acrossFor k) wide) (h-is : f .h ≡ fromLuma (downFor k) high) where
-  abbrev O : Plane
-  O = at original (f .w)
+-- ---- what is lent stays lent when the plane changes and keeps its length
 
-  abbrev restoredBy : Plane → Plane
-  restoredBy = restoredFrom pcm cells (cellOf wide) (acrossFor k) (downFor k) O
+pub lent-again : {k : Component} {f : Frame} {r : Restoration} {a b original cells slices : List ℕ}
+    → length b ≡ length a
+    → PlaneReady k f r a original cells slices → PlaneReady k f r b original cells slices
+lent-again len l =
+    let lent = l .lent in
+    record {
+      ready = l .ready;
+      any = l .any;
+      lent =
+          record {
+            sampled = lent .sampled;
+            columns-are = lent .columns-are;
+            rows-most = lent .rows-most;
+            wide = lent .wide;
+            high = lent .high;
+            down = lent .down;
+            plane-long = len ∙ lent .plane-long;
+            original-long = lent .original-long;
+            cells-long = lent .cells-long;
+          };
+    }
 
-  -- a sample goes by the same sample of the filtered plane alone
-  from-same : (P Q : Plane) (x y : ℕ) → P x y ≡ Q x y → restoredBy P x y ≡ restoredBy Q x y
-  unfolding restoredFrom
-  from-same P Q x y e = rw e
+-- ---- a pass and the restoration after it
 
-  -- a plane that holds G, restored, holds the restored G
-  held-restored : (G : Plane) (before after : List ℕ) → Holds (f .w) (f .h) before G
-      → Restored pcm cells wide high (acrossFor k) (downFor k) original before after → Holds (f .w) (f .h) after (restoredBy G)
-  held-restored G before after held is x y hx hy =
-      let at-is : (list : List ℕ) → at list (fromLuma (acrossFor k) wide) ≡ at list (f .w) = λ list. ap (at list) (sym w-is) in
-      ap (λ (w : ℕ). at after w x y) w-is
-      ∙ is .holds x y (omega arith) (omega arith)
-      ∙ ap₂ (λ (P Q : Plane). restoredFrom pcm cells (cellOf wide) (acrossFor k) (downFor k) P Q x y) (at-is original) (at-is before)
-      ∙ from-same (at before (f .w)) G x y (held x y hx hy)
+-- a pass over the edges of the direction that is given
+pub passed-as : {d e : Code.Direction} → d ≡ e → (k : Component) (f : Frame)
+    (cells slices starts s0 s1 : List ℕ)
+    → Holds (f .columns) (f .rows) s1 (passFor (directionOf e) k f cells slices starts (at s0 (f .columns)))
+    → Holds (f .columns) (f .rows) s1 (passFor (directionOf d) k f cells slices starts (at s0 (f .columns)))
+passed-as told k f cells slices starts s0 s1 h = rw told h
 
-  pub chain : (w4 : f .w % 4 ≡ 0) (h4 : f .h % 4 ≡ 0) (s0 s1 s2 s3 s4 : List ℕ)
+module _ (k : Component) (f : Frame) (pcm : Bool) (original cells slices : List ℕ) where
+  -- a plane that holds what the pass leaves, restored
+  pub stepped : (d : Direction) (starts s0 s1 s2 : List ℕ)
+      → Holds (f .columns) (f .rows) s1 (passFor d k f cells slices starts (at s0 (f .columns)))
+      → Holds (f .columns) (f .rows) s2 (restoredFor pcm cells k f (at original (f .columns)) (at s1 (f .columns)))
+      → Holds (f .columns) (f .rows) s2 (stepFor d k f pcm original cells slices starts (at s0 (f .columns)))
+  stepped d starts s0 s1 s2 passed restored =
+      holds-then (f .columns) (f .rows) (restoredFor pcm cells k f (at original (f .columns))) _ s1 s2
+      (restored-local _ _ _ _ _ _ _ _) passed
+      restored
+
+  -- the horizontal step goes by the samples that the vertical one left
+  horizontal-step : Ready k f cells slices → (rows : List ℕ)
+      → Local (f .columns) 0 (f .rows) (stepFor horizontal k f pcm original cells slices rows)
+  horizontal-step ready rows P Q same =
+      restored-local pcm cells k f (at original (f .columns)) (f .columns) 0 (f .rows) _ _
+      (horizontal-local kernel (f .columns) (f .rows) 0 (f .rows) _ (ready .columns4) (ready .rows4) (inl refl)
+      (inr (inl refl)) P Q same)
+
+  pub chain : Ready k f cells slices → (columns rows s0 s1 s2 : List ℕ)
       → s0 ≡ original
-      → Holds (f .w) (f .h) s1 (pass kernel (f .w) (verticalSegment k cells slices columns (f .log2) (f .width)) (at s0 (f .w)))
-      → Restored pcm cells wide high (acrossFor k) (downFor k) original s1 s2
-      → Holds (f .w) (f .h) s3 (crosswise kernel (f .h) (horizontalSegment k cells slices rows (f .log2) (f .width)) (at s2 (f .w)))
-      → Restored pcm cells wide high (acrossFor k) (downFor k) original s3 s4
-      → length s4 ≡ f .w * f .h
-      → s4 ≡ table (f .w) (f .h) (finishedFrom k f wide pcm original cells slices columns rows)
-  unfolding finishedFrom
-  chain w4 h4 s0 s1 s2 s3 s4 copied first one second two len =
-      let F : Plane = pass kernel (f .w) (verticalSegment k cells slices columns (f .log2) (f .width)) O in
-      let a : Holds (f .w) (f .h) s1 F = subst (λ (l : List ℕ). Holds (f .w) (f .h) s1 (pass kernel (f .w) (verticalSegment k cells slices columns (f .log2) (f .width)) (at l (f .w)))) copied first in
-      let b : Holds (f .w) (f .h) s2 (restoredBy F) = held-restored F s1 s2 a one in
-      let H : Plane → Plane = crosswise kernel (f .h) (horizontalSegment k cells slices rows (f .log2) (f .width)) in
-      let c : Holds (f .w) (f .h) s3 (H (restoredBy F)) =
-      holds-then (f .w) (f .h) H (restoredBy F) s2 s3 (horizontal-local kernel (f .w) (f .h) 0 (f .h) _ w4 h4 (inl refl) (inr (inl refl))) b second in
-      holds-table (f .w) (f .h) s4 _ len (held-restored (H (restoredBy F)) s3 s4 c two)
+      → Holds (f .columns) (f .rows) s1 (stepFor vertical k f pcm original cells slices columns (at s0 (f .columns)))
+      → Holds (f .columns) (f .rows) s2 (stepFor horizontal k f pcm original cells slices rows (at s1 (f .columns)))
+      → length s2 ≡ f .columns * f .rows
+      → s2 ≡ table (f .columns) (f .rows) (finishedFor k f pcm original cells slices columns rows)
+  unfolding finishedFor
+  chain ready columns rows s0 s1 s2 copied first second len =
+      let F : Plane → Plane = stepFor vertical k f pcm original cells slices columns in
+      let G : Plane → Plane = stepFor horizontal k f pcm original cells slices rows in
+      let a : Holds (f .columns) (f .rows) s1 (F (at original (f .columns))) =
+      subst (λ (l : List ℕ). Holds (f .columns) (f .rows) s1 (F (at l (f .columns)))) copied first in
+      holds-table _ _ s2 _ len (holds-then (f .columns) (f .rows) G _ s1 s2 (horizontal-step ready rows) a second)

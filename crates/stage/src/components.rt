@@ -1,20 +1,18 @@
-// The components of an accepted picture: each plane with its sizes, its thresholds' settings and its bands.
-use crate::planes_of::finish_plane;
-use checks::largest_at;
-use passes::Frame;
+// The components of an accepted picture: what their segments go by, and the frames of their planes.
+use filter::Component;
+use ints::largest_at;
 use picture::LumaColumn;
 use picture::Settings;
-use segments::Component;
+use picture::chroma_rows;
+use picture::row_of_cells;
+use segments::Frame;
 ghost use mathlib.Core.Path.{_≡_};
-ghost use Prim.Native.Nat.{_≤_, _^_};
+ghost use Prim.Native.Nat.{_≤_};
 ghost use Rattle.ints.specs.Int.{_⊖_};
 ghost use Rattle.picture.specs.Accepted.{OffsetOk};
-ghost use Rattle.picture.specs.Given.{settingsOf};
-ghost use Rattle.picture.specs.Plane.{table};
-ghost use Rattle.picture.specs.Scale.{Y, Cb, chromaDown, fromLuma};
-ghost use Rattle.segments.specs.Pictures.{componentFor};
-ghost use Rattle.stage.specs.Frames.{frameOf};
-ghost use Rattle.stage.specs.Plane.{finishedFrom, PlaneReady};
+ghost use Rattle.picture.specs.Given.{bare, settingsOf};
+ghost use Rattle.picture.specs.Scale.{Y, Cb};
+ghost use Rattle.segments.specs.Pictures.{componentFor, frameFor};
 
 // The Cb or Cr offset plus 12, so that it is no longer signed.
 pub(crate) fn biased_offset(offset: i32) -> u8
@@ -24,112 +22,64 @@ pub(crate) fn biased_offset(offset: i32) -> u8
     (offset + 12) as u8
 }
 
-// The chroma rows of luma rows.
-pub fn chroma_rows(format: u32, n: usize) -> usize
-    ensures { λ r. ⌜ r ≡ fromLuma (chromaDown format) n ⌝ }
+// Luma has no offset of its own.
+pub(crate) fn luma_component(settings: Settings) -> Component
+    requires { ⌜ settings .«luma_depth» ≤ 16 ⌝ }
+    ensures { λ r. ⌜ r ≡ componentFor (settingsOf settings) 12 Y ⌝ }
 {
-    if format == 0 {
-        return 0;
-    }
-    if format == 1 {
-        return n / 2;
-    }
-    n
-}
-
-pub(crate) fn finish_luma(
-    out: &mut [u16],
-    original: &[u16],
-    cells: &[u8],
-    slices: &[u8],
-    columns: &[u16],
-    rows: &[u16],
-    settings: Settings,
-    restoring: bool,
-)
-    requires { ⌜ PlaneReady (componentFor (settingsOf settings) 12 Y) (frameOf settings Y) (settings .width) (settings .height) (2 ^ settings .«log2_ctb») (settings .«pcm_loop_filter_disabled») restoring (now out) (now original) (now cells) (now slices) ⌝ }
-    ensures { λ _. ⌜ now (out .exit) ≡ table (frameOf settings Y .w) (frameOf settings Y .h) (finishedFrom (componentFor (settingsOf settings) 12 Y) (frameOf settings Y) (settings .width) (settings .«pcm_loop_filter_disabled») (now (original .entry)) (now (cells .entry)) (now (slices .entry)) (now (columns .entry)) (now (rows .entry))) ⌝ }
-{
-    let wide = settings.width as usize;
-    let high = settings.height as usize;
-    let k = Component {
+    Component {
         luma: true,
         format: settings.chroma_format,
         depth: settings.luma_depth,
         offset: 12,
-    };
-    let f = Frame {
-        w: wide,
-        h: high,
-        width: wide / 4,
-        height: high / 4,
-        log2: settings.log2_ctb,
-        most: largest_at(settings.luma_depth),
-    };
-    let ctb = 1usize << settings.log2_ctb;
-    finish_plane(
-        out,
-        original,
-        cells,
-        slices,
-        columns,
-        rows,
-        k,
-        f,
-        wide,
-        high,
-        ctb,
-        settings.pcm_loop_filter_disabled,
-        restoring,
-    );
+        largest: largest_at(settings.luma_depth),
+    }
 }
 
-// A chroma plane; `pic` is its own offset plus 12. Cb and Cr differ in nothing else.
-pub(crate) fn finish_chroma(
-    out: &mut [u16],
-    original: &[u16],
-    cells: &[u8],
-    slices: &[u8],
-    columns: &[u16],
-    rows: &[u16],
-    settings: Settings,
-    pic: u8,
-    restoring: bool,
-)
-    requires { ⌜ PlaneReady (componentFor (settingsOf settings) pic Cb) (frameOf settings Cb) (settings .width) (settings .height) (fromLuma (chromaDown (settings .«chroma_format»)) (2 ^ settings .«log2_ctb»)) (settings .«pcm_loop_filter_disabled») restoring (now out) (now original) (now cells) (now slices) ⌝ }
-    ensures { λ _. ⌜ now (out .exit) ≡ table (frameOf settings Cb .w) (frameOf settings Cb .h) (finishedFrom (componentFor (settingsOf settings) pic Cb) (frameOf settings Cb) (settings .width) (settings .«pcm_loop_filter_disabled») (now (original .entry)) (now (cells .entry)) (now (slices .entry)) (now (columns .entry)) (now (rows .entry))) ⌝ }
+// Cb or Cr: they differ in their offset alone, which is given plus 12.
+pub(crate) fn chroma_component(settings: Settings, offset: u8) -> Component
+    requires { ⌜ settings .«chroma_depth» ≤ 16 ⌝ }
+    ensures { λ r. ⌜ r ≡ componentFor (settingsOf settings) offset Cb ⌝ }
+{
+    Component {
+        luma: false,
+        format: settings.chroma_format,
+        depth: settings.chroma_depth,
+        offset,
+        largest: largest_at(settings.chroma_depth),
+    }
+}
+
+pub(crate) fn luma_frame(settings: Settings) -> Frame
+    requires { ⌜ settings .«log2_ctb» ≤ 6 ⌝ }
+    ensures { λ r. ⌜ r ≡ frameFor (bare settings) Y ⌝ }
+{
+    let wide = LumaColumn(settings.width as usize);
+    let high = settings.height as usize;
+    Frame {
+        columns: wide.0,
+        rows: high,
+        cell_columns: wide.cell(),
+        cell_rows: row_of_cells(high),
+        log2_ctb: settings.log2_ctb,
+        band: 1usize << settings.log2_ctb,
+    }
+}
+
+pub(crate) fn chroma_frame(settings: Settings) -> Frame
+    requires { ⌜ settings .«log2_ctb» ≤ 6 ⌝ }
+    ensures { λ r. ⌜ r ≡ frameFor (bare settings) Cb ⌝ }
 {
     let format = settings.chroma_format;
-    let wide = settings.width as usize;
+    let wide = LumaColumn(settings.width as usize);
     let high = settings.height as usize;
-    let k = Component {
-        luma: false,
-        format,
-        depth: settings.chroma_depth,
-        offset: pic,
-    };
-    let f = Frame {
-        w: LumaColumn(wide).chroma(format).0,
-        h: chroma_rows(format, high),
-        width: wide / 4,
-        height: high / 4,
-        log2: settings.log2_ctb,
-        most: largest_at(settings.chroma_depth),
-    };
-    let band = chroma_rows(format, 1usize << settings.log2_ctb);
-    finish_plane(
-        out,
-        original,
-        cells,
-        slices,
-        columns,
-        rows,
-        k,
-        f,
-        wide,
-        high,
-        band,
-        settings.pcm_loop_filter_disabled,
-        restoring,
-    );
+    let columns = wide.chroma(format);
+    Frame {
+        columns: columns.0,
+        rows: chroma_rows(format, high),
+        cell_columns: wide.cell(),
+        cell_rows: row_of_cells(high),
+        log2_ctb: settings.log2_ctb,
+        band: chroma_rows(format, 1usize << settings.log2_ctb),
+    }
 }

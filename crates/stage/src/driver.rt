@@ -1,17 +1,21 @@
 // The driver: every check, then each component's plane.
 use crate::components::biased_offset;
-use crate::components::finish_chroma;
-use crate::components::finish_luma;
-use checks::Verdict;
-use checks::check;
+use crate::components::chroma_component;
+use crate::components::chroma_frame;
+use crate::components::luma_component;
+use crate::components::luma_frame;
+use crate::plane::finish_plane;
+use checks::OutputLengths;
+use ledger::Verdict;
+use ledger::check;
 use picture::Settings;
-use restore::any_suppressed;
+use restore::restoration_of;
 ghost use mathlib.Core.Path.{_≡_};
-ghost use Rattle.checks.specs.Numbered.{numbered};
 ghost use Rattle.filter.specs.Finished.{finished, outputs};
+ghost use Rattle.ledger.specs.Numbered.{numbered};
 ghost use Rattle.picture.specs.Accepted.{Accepted};
-ghost use Rattle.picture.specs.Given.{given, planes};
-ghost use Rattle.picture.specs.Ledger.{verdict};
+ghost use Rattle.picture.specs.Causes.{verdict};
+ghost use Rattle.picture.specs.Lent.{pictureGiven, pictureNow, planesGiven, planesLeft, planesNow};
 
 // The planes of an accepted picture.
 fn deblock(
@@ -27,41 +31,26 @@ fn deblock(
     outcb: &mut [u16],
     outcr: &mut [u16],
 )
-    requires { ⌜ Accepted (given settings (planes (now y) (now cb) (now cr)) (now cells) (now slices) (now columns) (now rows)) (planes (now outy) (now outcb) (now outcr)) ⌝ }
-    ensures { λ _. ⌜ planes (now (outy .exit)) (now (outcb .exit)) (now (outcr .exit)) ≡ finished (given settings (planes (now (y .entry)) (now (cb .entry)) (now (cr .entry))) (now (cells .entry)) (now (slices .entry)) (now (columns .entry)) (now (rows .entry))) ⌝ }
+    requires { ⌜ Accepted (pictureNow settings y cb cr cells slices columns rows) (planesNow outy outcb outcr) ⌝ }
+    ensures { λ _. ⌜ planesLeft outy outcb outcr ≡
+        finished (pictureGiven settings y cb cr cells slices columns rows) ⌝ }
 {
-    let restoring = any_suppressed(cells, settings.pcm_loop_filter_disabled);
-    finish_luma(outy, y, cells, slices, columns, rows, settings, restoring);
+    let r = restoration_of(cells, settings.pcm_loop_filter_disabled);
+    let k = luma_component(settings);
+    let f = luma_frame(settings);
+    finish_plane(outy, y, cells, slices, columns, rows, k, f, r);
     if settings.chroma_format == 0 {
         return;
     }
-    let cb_offset = biased_offset(settings.cb_qp_offset);
-    let cr_offset = biased_offset(settings.cr_qp_offset);
-    finish_chroma(
-        outcb,
-        cb,
-        cells,
-        slices,
-        columns,
-        rows,
-        settings,
-        cb_offset,
-        restoring,
-    );
-    finish_chroma(
-        outcr,
-        cr,
-        cells,
-        slices,
-        columns,
-        rows,
-        settings,
-        cr_offset,
-        restoring,
-    );
+    let kb = chroma_component(settings, biased_offset(settings.cb_qp_offset));
+    let kr = chroma_component(settings, biased_offset(settings.cr_qp_offset));
+    let fc = chroma_frame(settings);
+    finish_plane(outcb, cb, cells, slices, columns, rows, kb, fc, r);
+    finish_plane(outcr, cr, cells, slices, columns, rows, kr, fc, r);
 }
 
-// The stage. Any input at all: the answer is the ledger's, and the output planes hold the finished picture, or what they held before.
+// The stage. Any input at all: the answer is the ledger's, and the output planes hold the finished picture, or what
+// they held before.
 pub fn apply_deblocking(
     settings: Settings,
     y: &[u16],
@@ -75,22 +64,17 @@ pub fn apply_deblocking(
     outcb: &mut [u16],
     outcr: &mut [u16],
 ) -> Verdict
-    ensures { λ r. ⌜ numbered r ≡ verdict (given settings (planes (now (y .entry)) (now (cb .entry)) (now (cr .entry))) (now (cells .entry)) (now (slices .entry)) (now (columns .entry)) (now (rows .entry))) (planes (now (outy .entry)) (now (outcb .entry)) (now (outcr .entry))) ⌝ }
-    ensures { λ _. ⌜ planes (now (outy .exit)) (now (outcb .exit)) (now (outcr .exit)) ≡ outputs (given settings (planes (now (y .entry)) (now (cb .entry)) (now (cr .entry))) (now (cells .entry)) (now (slices .entry)) (now (columns .entry)) (now (rows .entry))) (planes (now (outy .entry)) (now (outcb .entry)) (now (outcr .entry))) ⌝ }
+    ensures { λ r. ⌜ numbered r ≡
+        verdict (pictureGiven settings y cb cr cells slices columns rows) (planesGiven outy outcb outcr) ⌝ }
+    ensures { λ _. ⌜ planesLeft outy outcb outcr ≡
+        outputs (pictureGiven settings y cb cr cells slices columns rows) (planesGiven outy outcb outcr) ⌝ }
 {
-    let answer = check(
-        settings,
-        y,
-        cb,
-        cr,
-        cells,
-        slices,
-        columns,
-        rows,
-        outy.len(),
-        outcb.len(),
-        outcr.len(),
-    );
+    let lent = OutputLengths::Planes {
+        y: outy.len(),
+        cb: outcb.len(),
+        cr: outcr.len(),
+    };
+    let answer = check(settings, y, cb, cr, cells, slices, columns, rows, lent);
     let Verdict::Accepted = answer else {
         return answer;
     };

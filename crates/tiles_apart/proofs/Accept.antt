@@ -1,4 +1,4 @@
--- The cut of an accepted picture is accepted, with any output planes of its own lengths.
+-- The cut of an accepted picture is a picture that is accepted.
 use Prim.Native.Nat.{ℕ, zero, suc, _+_, _*_, _/_, _%_, _≤_, _<_}
 use mathlib.Core.Path.{_≡_, refl, ap, sym, _∙_, subst}
 use mathlib.Core.List.{List, [], _∷_}
@@ -6,7 +6,7 @@ use native.Mathlib.Nat.{le-div-iff-mul-le}
 use native.Mathlib.Omega.{arith}
 use lib.ListN.{length, getD}
 use lib.Pow.{pow-pos}
-use Rattle.picture.specs.Accepted.{Accepted, SizeOk, PlanesOk, StartsOk, CellOk}
+use Rattle.picture.specs.Accepted.{PictureOk, SizeOk, PlanesOk, StartsOk, CellOk}
 use Rattle.picture.specs.Cell.{cellByte, cellCount, cellNumber}
 use Rattle.picture.specs.Cut.{IsTile, tilePart, cellPart, tileOfPlane, cut}
 use Rattle.picture.specs.Picture.{Picture, Planes, planeOf, planeWidth, planeHeight, across, down, largest, ctbSize}
@@ -15,7 +15,14 @@ use Rattle.picture.specs.Scale.{Component, cellOf}
 use Rattle.picture.specs.Tile.{ctbCount, tileLeft, tileTop, tileWidth, tileHeight}
 use Rattle.tiles_apart.proofs.Cells.{byte-moves}
 use Rattle.tiles_apart.proofs.Parts.{Split, split, at-split, within, crop-at, crop-length}
-use Rattle.tiles_apart.proofs.Tile.{columns-span, rows-span, part-inside, plane-of-tile, cells-inside, cells-rows}
+use Rattle.tiles_apart.proofs.Tile.{
+  columns-span,
+  rows-span,
+  part-inside,
+  plane-of-tile,
+  cells-inside,
+  cells-rows,
+}
 
 -- one tile is in rule
 one-start : (many size total : ℕ) → 0 < many → 0 < size → 0 < total → StartsOk (0 ∷ []) many size total
@@ -35,7 +42,8 @@ size-ok : (n a total : ℕ) → 0 < n → n % 8 ≡ 0 → n + a ≤ total → to
 size-ok n a total h e f t = omega arith
 
 -- a cell in range, by its bytes
-cell-ok : (depth : ℕ) (slices : List ℕ) (f g : ℕ → ℕ) → ((b : ℕ) → b < 8 → f b ≡ g b) → CellOk depth slices g → CellOk depth slices f
+cell-ok : (depth : ℕ) (slices : List ℕ) (f g : ℕ → ℕ) → ((b : ℕ) → b < 8 → f b ≡ g b) → CellOk depth slices g
+    → CellOk depth slices f
 cell-ok depth slices f g e ok = record {
   qp-low = rw (e 0 (omega arith)) (ok .qp-low);
   qp-high = rw (e 0 (omega arith)) (ok .qp-high);
@@ -47,9 +55,10 @@ cell-ok depth slices f g e ok = record {
   seventh = omega (arith, e 7 (omega arith));
 }
 
-module _ {p : Picture} {lent : Planes} (ok : Accepted p lent) {i j : ℕ} (tile : IsTile p i j) where
+module _ {p : Picture} (ok : PictureOk p) {i j : ℕ} (tile : IsTile p i j) where
   -- cell n of the cut is a cell of the picture
-  cells : (n : ℕ) → n < cellOf (tileWidth p i) * cellOf (tileHeight p j) → CellOk (p .settings .luma-depth) (p .slices) (cellByte (cut p i j .cells) n)
+  cells : (n : ℕ) → n < cellOf (tileWidth p i) * cellOf (tileHeight p j)
+      → CellOk (p .settings .luma-depth) (p .slices) (cellByte (cut p i j .cells) n)
   cells n h =
       let w : ℕ = cellOf (tileWidth p i) in
       let d : Split w (cellOf (tileHeight p j)) n = split w (cellOf (tileHeight p j)) n h in
@@ -59,7 +68,8 @@ module _ {p : Picture} {lent : Planes} (ok : Accepted p lent) {i j : ℕ} (tile 
       let there : cellNumber (cellOf (p .width)) x y < cellCount p =
       within (cellOf (p .width)) (cellOf (p .height)) x y (omega arith) (omega arith) in
       cell-ok (p .settings .luma-depth) (p .slices) _ _
-      (λ b hb. ap (λ (m : ℕ). cellByte (cut p i j .cells) m b) (d .whole) ∙ byte-moves ok tile (n % w) (n / w) b (d .column) (d .row) hb)
+      (λ b hb. ap (λ (m : ℕ). cellByte (cut p i j .cells) m b) (d .whole)
+      ∙ byte-moves ok tile (n % w) (n / w) b (d .column) (d .row) hb)
       (ok .cells (cellNumber (cellOf (p .width)) x y) there)
 
   module _ (c : Component) where
@@ -79,7 +89,8 @@ module _ {p : Picture} {lent : Planes} (ok : Accepted p lent) {i j : ℕ} (tile 
     list = tileOfPlane p i j (p .originals) c
 
     plane-long : length list ≡ w * h
-    plane-long = crop-length (planeOf (p .originals) c) W H (tilePart p i j c) (ok .originals c) (part-inside ok tile c)
+    plane-long =
+        crop-length (planeOf (p .originals) c) W H (tilePart p i j c) (ok .originals c) (part-inside ok tile c)
 
     samples : (k : ℕ) → k < length list → getD list k 0 ≤ largest (p .settings) c
     unfolding at
@@ -89,26 +100,35 @@ module _ {p : Picture} {lent : Planes} (ok : Accepted p lent) {i j : ℕ} (tile 
         let y : ℕ = k / w + down (p .settings) c (tileTop p j) in
         let inside = part-inside ok tile c in
         let from : getD list k 0 ≡ getD (planeOf (p .originals) c) (y * W + x) 0 =
-        at-split list w h k d ∙ crop-at (planeOf (p .originals) c) W H (tilePart p i j c) (ok .originals c) inside (k % w) (k / w) (d .column) (d .row) in
-        rw from (ok .samples c (y * W + x) (omega (arith, ok .originals c, within W H x y (omega arith) (omega arith))))
+        at-split list w h k d
+        ∙ crop-at (planeOf (p .originals) c) W H (tilePart p i j c) (ok .originals c) inside (k % w) (k / w)
+        (d .column) (d .row) in
+        rw from (ok .samples c (y * W + x)
+        (omega (arith, ok .originals c, within W H x y (omega arith) (omega arith))))
 
-  pub accepted : (own : Planes) → PlanesOk (cut p i j) own → Accepted (cut p i j) own
+  pub accepted : PictureOk (cut p i j)
   unfolding cut
-  accepted own own-long =
+  accepted =
       let X = columns-span ok tile in
       let Y = rows-span ok tile in
       record {
         width = size-ok (tileWidth p i) (tileLeft p i) (p .width) (X .least) (X .eights) (X .fits) (ok .width .most);
-        height = size-ok (tileHeight p j) (tileTop p j) (p .height) (Y .least) (Y .eights) (Y .fits) (ok .height .most);
+        height =
+            size-ok (tileHeight p j) (tileTop p j) (p .height) (Y .least) (Y .eights) (Y .fits) (ok .height .most);
         settings = ok .settings;
         originals = λ c. ap length (plane-of-tile p i j (p .originals) c) ∙ plane-long c;
-        outputs-long = own-long;
         cells-long =
-            crop-length (p .cells) (8 * cellOf (p .width)) (cellOf (p .height)) (cellPart p i j) (cells-rows ok tile) (cells-inside ok tile) ∙ omega arith;
+            crop-length (p .cells) (8 * cellOf (p .width)) (cellOf (p .height)) (cellPart p i j) (cells-rows ok tile)
+            (cells-inside ok tile) ∙ omega arith;
         slices = ok .slices;
-        columns = one-start 20 (ctbSize (p .settings)) (tileWidth p i) (omega arith) (pow-pos (p .settings .log2-ctb)) (X .least);
-        rows = one-start 22 (ctbSize (p .settings)) (tileHeight p j) (omega arith) (pow-pos (p .settings .log2-ctb)) (Y .least);
+        columns =
+            one-start 20 (ctbSize (p .settings)) (tileWidth p i) (omega arith) (pow-pos (p .settings .log2-ctb))
+            (X .least);
+        rows =
+            one-start 22 (ctbSize (p .settings)) (tileHeight p j) (omega arith) (pow-pos (p .settings .log2-ctb))
+            (Y .least);
         cells = cells;
         samples = λ c.
-            subst (λ (l : List ℕ). (k : ℕ) → k < length l → getD l k 0 ≤ largest (p .settings) c) (sym (plane-of-tile p i j (p .originals) c)) (samples c);
+            subst (λ (l : List ℕ). (k : ℕ) → k < length l → getD l k 0 ≤ largest (p .settings) c)
+            (sym (plane-of-tile p i j (p .originals) c)) (samples c);
       }

@@ -37,7 +37,8 @@ module _ (P′ P : Plane) (part : Part) where
   unfolding differing
   agree-zero agree =
       sum-zero (part .height) _
-      (λ y hy. sum-zero (part .width) _ (λ x hx. rw (eq-eqb (P′ x y) (P (x + part .x) (y + part .y)) (agree x y hx hy))))
+      (λ y hy. sum-zero (part .width) _
+      (λ x hx. rw (eq-eqb (P′ x y) (P (x + part .x) (y + part .y)) (agree x y hx hy))))
 
   zero-agree : differing P′ P part ≡ 0 → Agree P′ P part
   unfolding differing
@@ -46,17 +47,21 @@ module _ (P′ P : Plane) (part : Part) where
 -- the planes `own` of a cut agree with the tile in planes of the picture; and the count for one plane
 abbrev pub TileAgrees : Picture → ℕ → ℕ → Planes → Planes → Type 0
 TileAgrees p i j own planes =
-    (c : Component) → Agree (at (planeOf own c) (planeWidth (cut p i j) c)) (at (planeOf planes c) (planeWidth p c)) (tilePart p i j c)
+    (c : Component)
+    → Agree (at (planeOf own c) (planeWidth (cut p i j) c)) (at (planeOf planes c) (planeWidth p c))
+    (tilePart p i j c)
 
 abbrev differencesIn : Picture → ℕ → ℕ → Planes → Planes → Component → ℕ
 differencesIn p i j own planes c =
-    differing (at (planeOf own c) (planeWidth (cut p i j) c)) (at (planeOf planes c) (planeWidth p c)) (tilePart p i j c)
+    differing (at (planeOf own c) (planeWidth (cut p i j) c)) (at (planeOf planes c) (planeWidth p c))
+    (tilePart p i j c)
 
 module _ (p : Picture) (i j : ℕ) (own planes : Planes) where
   pub none-differ : TileAgrees p i j own planes → differences p i j own planes ≡ 0
   unfolding differences
   none-differ agree =
-      let none : (c : Component) → differencesIn p i j own planes c ≡ 0 = λ c. agree-zero _ _ _ (agree c) in omega (arith, none Y, none Cb, none Cr)
+      let none : (c : Component) → differencesIn p i j own planes c ≡ 0 =
+      λ c. agree-zero _ _ _ (agree c) in omega (arith, none Y, none Cb, none Cr)
 
   pub all-agree : differences p i j own planes ≡ 0 → TileAgrees p i j own planes
   unfolding differences

@@ -1,4 +1,5 @@
--- Term 3 at work on T1 of document 01: "32 by 16, CTB 16, columns 0, 1: nothing crosses column 16. With columns 0 it may."
+-- Term 3 at work on T1 of document 01: "32 by 16, CTB 16, columns 0, 1: nothing crosses column 16. With columns 0 it
+-- may."
 use Prim.Native.Nat.{ℕ, zero, suc, _+_}
 use mathlib.Core.Path.{_≡_, refl}
 use mathlib.Core.Bool.{false}
@@ -17,8 +18,8 @@ use Rattle.lines.specs.Decision.{activity, dSam, decision}
 use Rattle.lines.specs.Luma.{clip1, near, strongLine, delta0, sideDelta, second, weakBy, weakLine, lumaLine}
 use Rattle.picture.specs.Accepted.{PlanesOk}
 use Rattle.picture.specs.Cell.{cellAt, suppressed}
+use Rattle.picture.specs.Causes.{verdict}
 use Rattle.picture.specs.Cut.{cut, tilePlanes}
-use Rattle.picture.specs.Ledger.{verdict}
 use Rattle.picture.specs.Picture.{Picture, Planes}
 use Rattle.picture.specs.Plane.{at, table, rect, crop}
 use Rattle.picture.specs.Scale.{Y, Cb, Cr}
@@ -98,10 +99,14 @@ own-long = (elim [ Y ↦ refl | Cb ↦ refl | Cr ↦ refl ], elim [ Y ↦ refl |
 tiles-apart : Apart two lent 0 0 own × Apart two lent 1 0 own
 tiles-apart = (term3 .apart two lent 0 0 left own (own-long .0), term3 .apart two lent 1 0 right own (own-long .1))
 
--- the count sees what crosses column 16 where the picture is one tile: left of it, three luma samples in each of 16 rows, and one sample of
--- Cb and one of Cr in each of 8 rows
+-- the count sees what crosses column 16 where the picture is one tile: left of it, three luma samples in each of 16
+-- rows, and one sample of Cb and one of Cr in each of 8 rows
 crossed : differences two 0 0 (outputs (cut two 0 0) own) (outputs one lent) ≡ 48 + 8 + 8
-unfolding verdict cut tileEnd tileFirst crop rect outputs finished differences differing _⊖_ _⊞_ _⊟_ neg _⊠_ lt _>>_ clip3 abs natOf passOf restored finishedPlane kernel window pass slicesOpen gate lumaFilter chromaFilter between segmentAt activity dSam decision clip1 near strongLine delta0 sideDelta second weakBy weakLine lumaLine chromaDelta chromaLine cellAt suppressed at table sliceAt sameTile averageQp betaIndex tcIndex scaled lumaBeta lumaTc clippedIndex tableQpc mappedQp chromaQp chromaTc BETA TC QPC
+unfolding verdict cut tileEnd tileFirst crop rect outputs finished differences differing _⊖_ _⊞_ _⊟_ neg _⊠_ lt _>>_
+    clip3 abs natOf passOf restored finishedPlane kernel window pass slicesOpen gate lumaFilter chromaFilter between
+    segmentAt activity dSam decision clip1 near strongLine delta0 sideDelta second weakBy weakLine lumaLine
+    chromaDelta chromaLine cellAt suppressed at table sliceAt sameTile averageQp betaIndex tcIndex scaled lumaBeta
+    lumaTc clippedIndex tableQpc mappedQp chromaQp chromaTc BETA TC QPC
 crossed = refl
 
 -- and the right tile, whatever it holds, does not move the left one

@@ -1,4 +1,5 @@
--- What the stage leaves of an accepted picture: the finished planes, whatever was lent; and those of a tile are those of its cut.
+-- What the stage leaves of an accepted picture: the finished planes, whatever was lent; and those of a tile are those
+-- of its cut.
 use Prim.Native.Nat.{ℕ, _<_}
 use mathlib.Core.Path.{_≡_, refl, ap, sym, _∙_}
 use mathlib.Core.List.{List}
@@ -6,9 +7,10 @@ use native.Mathlib.Omega.{arith}
 use lib.ListN.{length}
 use Rattle.filter.specs.Count.{differences}
 use Rattle.filter.specs.Finished.{finishedPlane, finished, outputs}
-use Rattle.picture.specs.Accepted.{Accepted, PlanesOk}
+use Rattle.picture.specs.Accepted.{PictureOk, PlanesOk}
+use Rattle.picture.specs.Causes.{verdict}
 use Rattle.picture.specs.Cut.{IsTile, tilePart, tilePlanes, cut}
-use Rattle.picture.specs.Ledger.{acceptance, verdict}
+use Rattle.picture.specs.Ledger.{acceptance}
 use Rattle.picture.specs.Picture.{Picture, Planes, planeOf, planeWidth, planeHeight}
 use Rattle.picture.specs.Plane.{at, table}
 use Rattle.picture.specs.Scale.{Component, Y, Cb, Cr}
@@ -23,14 +25,16 @@ pub outputs-finished : (p : Picture) (lent : Planes) → verdict p lent ≡ acce
 unfolding outputs
 outputs-finished p lent e = rw e
 
-finished-table : (p : Picture) (c : Component) → planeOf (finished p) c ≡ table (planeWidth p c) (planeHeight p c) (finishedPlane p c)
+finished-table : (p : Picture) (c : Component)
+    → planeOf (finished p) c ≡ table (planeWidth p c) (planeHeight p c) (finishedPlane p c)
 unfolding finished
 finished-table p Y = refl
 finished-table p Cb = refl
 finished-table p Cr = refl
 
 finished-long : (p : Picture) → PlanesOk p (finished p)
-finished-long p c = ap length (finished-table p c) ∙ length-table (planeWidth p c) (planeHeight p c) (finishedPlane p c)
+finished-long p c =
+    ap length (finished-table p c) ∙ length-table (planeWidth p c) (planeHeight p c) (finishedPlane p c)
 
 finished-at : (p : Picture) (c : Component) (x y : ℕ) → x < planeWidth p c → y < planeHeight p c
     → at (planeOf (finished p) c) (planeWidth p c) x y ≡ finishedPlane p c x y
@@ -41,7 +45,7 @@ finished-at p c x y hx hy =
 planes-same : (a b : Planes) → ((c : Component) → planeOf a c ≡ planeOf b c) → a ≡ b
 planes-same a b same = λ k. record { y = same Y k; cb = same Cb k; cr = same Cr k }
 
-module _ {p : Picture} {lent : Planes} (ok : Accepted p lent) {i j : ℕ} (tile : IsTile p i j) where
+module _ {p : Picture} (ok : PictureOk p) {i j : ℕ} (tile : IsTile p i j) where
   -- of the finished planes no sample differs
   pub finished-differences : differences p i j (finished (cut p i j)) (finished p) ≡ 0
   unfolding cut
@@ -50,10 +54,12 @@ module _ {p : Picture} {lent : Planes} (ok : Accepted p lent) {i j : ℕ} (tile 
       agree : TileAgrees p i j (finished (cut p i j)) (finished p)
       agree c x y hx hy =
           let inside = part-inside ok tile c in
-          finished-at (cut p i j) c x y hx hy ∙ local ok tile c x y hx hy ∙ sym (finished-at p c _ _ (omega arith) (omega arith))
+          finished-at (cut p i j) c x y hx hy ∙ local ok tile c x y hx hy
+          ∙ sym (finished-at p c _ _ (omega arith) (omega arith))
 
   -- where no sample differs, the tile taken out of the picture's planes is the planes of the cut
-  tile-same : (own planes : Planes) → PlanesOk (cut p i j) own → PlanesOk p planes → differences p i j own planes ≡ 0 → tilePlanes p i j planes ≡ own
+  tile-same : (own planes : Planes) → PlanesOk (cut p i j) own → PlanesOk p planes → differences p i j own planes ≡ 0
+      → tilePlanes p i j planes ≡ own
   unfolding cut
   tile-same own planes own-long long none = planes-same _ _ same
     where
@@ -69,4 +75,5 @@ module _ {p : Picture} {lent : Planes} (ok : Accepted p lent) {i j : ℕ} (tile 
           ∙ sym (all-agree p i j own planes none c x y hx hy))
 
   pub finished-tile : tilePlanes p i j (finished p) ≡ finished (cut p i j)
-  finished-tile = tile-same (finished (cut p i j)) (finished p) (finished-long (cut p i j)) (finished-long p) finished-differences
+  finished-tile =
+      tile-same (finished (cut p i j)) (finished p) (finished-long (cut p i j)) (finished-long p) finished-differences

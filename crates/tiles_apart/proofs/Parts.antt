@@ -34,7 +34,8 @@ module _ (list : List ℕ) (stride width : ℕ) where
   rest-fits : (start n : ℕ) → Fits list stride start width (suc n) → Fits list stride (start + stride) width n
   rest-fits start n h k l = omega (arith, h (suc k) (omega arith))
 
-  rect-length : (start height : ℕ) → Fits list stride start width height → length (rect list stride start width height) ≡ width * height
+  rect-length : (start height : ℕ) → Fits list stride start width height
+      → length (rect list stride start width height) ≡ width * height
   unfolding rect
   rect-length start zero h = omega arith
   rect-length start (suc n) h =
@@ -78,7 +79,9 @@ module _ (list : List ℕ) (W H : ℕ) (part : Part) (long : length list ≡ W *
 
   pub crop-at : Agree (at (crop list W part) (part .width)) (at list W) part
   unfolding crop at
-  crop-at x y hx hy = rect-at list W (part .width) (part .y * W + part .x) (part .height) crop-fits x y hx hy ∙ index list (omega arith)
+  crop-at x y hx hy =
+      rect-at list W (part .width) (part .y * W + part .x) (part .height) crop-fits x y hx hy
+      ∙ index list (omega arith)
 
 -- each index of a list of rows is a column of a row
 pub record Split (w h k : ℕ) : Type 0 where

@@ -1,5 +1,5 @@
--- One pass is local: where two planes agree on a part and so do their segments, and the segments at the part's borders are closed, the
--- passes agree on the part. For any filter of a window.
+-- One pass is local: where two planes agree on a part and so do their segments, and the segments at the part's
+-- borders are closed, the passes agree on the part. For any filter of a window.
 use Prim.Native.Nat.{ℕ, _+_, _-_, _%_, _≤_, _<_, min}
 use mathlib.Core.Path.{_≡_, refl, ap, sym, _∙_, fun-ext}
 use mathlib.Core.Bool.{Bool, true, false, cond, _&&_}
@@ -20,7 +20,8 @@ cond-same : (t : Bool) (v : ℕ) → cond t v v ≡ v
 cond-same true v = refl
 cond-same false v = refl
 
--- the ways through a pass: the position belongs to no edge on the left, to none on the right, to a closed segment, to an edge inside
+-- the ways through a pass: the position belongs to no edge on the left, to none on the right, to a closed segment, to
+-- an edge inside
 module _ {A : Type 0} (filter : A → Plane → Plane) (width : ℕ) (segment : ℕ → ℕ → Option A) (P : Plane) (x y : ℕ) where
   pass-first : edgeOf x ≡ 0 → pass filter width segment P x y ≡ P x y
   unfolding pass
@@ -36,12 +37,14 @@ module _ {A : Type 0} (filter : A → Plane → Plane) (width : ℕ) (segment : 
 
   pass-in : 0 < edgeOf x → edgeOf x < width
       → pass filter width segment P x y
-      ≡ applied filter (segment (edgeOf x) (firstLine y)) (window P (edgeOf x) (firstLine y)) (x + 4 - edgeOf x) (y - firstLine y) (P x y)
+      ≡ applied filter (segment (edgeOf x) (firstLine y)) (window P (edgeOf x) (firstLine y)) (x + 4 - edgeOf x)
+      (y - firstLine y) (P x y)
   unfolding pass
   pass-in h k = simp (lt-ltb 0 (edgeOf x) h, lt-ltb (edgeOf x) width k)
 
 -- P′ of w′ columns and h rows is the part of P, of w columns, that starts at column a and row b
-module _ {A : Type 0} (filter : A → Plane → Plane) (segment′ segment : ℕ → ℕ → Option A) (P′ P : Plane) (w′ h w a b : ℕ)
+module _ {A : Type 0} (filter : A → Plane → Plane) (segment′ segment : ℕ → ℕ → Option A) (P′ P : Plane)
+    (w′ h w a b : ℕ)
     (a8 : a % 8 ≡ 0) (b4 : b % 4 ≡ 0) (w4 : w′ % 4 ≡ 0) (h4 : h % 4 ≡ 0) (fits : w′ + a ≤ w)
     (agree : Agree P′ P (record { x = a; y = b; width = w′; height = h }))
     (inner : (e l : ℕ) → e % 8 ≡ 0 → l % 4 ≡ 0 → 0 < e → e < w′ → l < h → segment′ e l ≡ segment (e + a) (l + b))
@@ -54,12 +57,15 @@ module _ {A : Type 0} (filter : A → Plane → Plane) (segment′ segment : ℕ
     line-moves : firstLine (y + b) ≡ firstLine y + b
     line-moves = omega arith
 
-    windows : 0 < edgeOf x → edgeOf x < w′ → window P′ (edgeOf x) (firstLine y) ≡ window P (edgeOf (x + a)) (firstLine (y + b))
+    windows : 0 < edgeOf x → edgeOf x < w′
+        → window P′ (edgeOf x) (firstLine y) ≡ window P (edgeOf (x + a)) (firstLine (y + b))
     unfolding window
     windows he hw = fun-ext λ i. fun-ext λ j.
-        agree (edgeOf x + min i 7 - 4) (firstLine y + min j 3) (omega arith) (omega arith) ∙ place P (omega arith) (omega arith)
+        agree (edgeOf x + min i 7 - 4) (firstLine y + min j 3) (omega arith) (omega arith)
+        ∙ place P (omega arith) (omega arith)
 
-    closed : segment (edgeOf x + a) (firstLine y + b) ≡ none → pass filter w segment P (x + a) (y + b) ≡ P (x + a) (y + b)
+    closed : segment (edgeOf x + a) (firstLine y + b) ≡ none
+        → pass filter w segment P (x + a) (y + b) ≡ P (x + a) (y + b)
     closed e = pass-closed filter w segment P (x + a) (y + b) (rw (edge-moves, line-moves) e)
 
     at-left : edgeOf x ≡ 0 → pass filter w segment P (x + a) (y + b) ≡ P (x + a) (y + b)
@@ -70,7 +76,8 @@ module _ {A : Type 0} (filter : A → Plane → Plane) (segment′ segment : ℕ
 
     at-right : w′ ≤ edgeOf x → pass filter w segment P (x + a) (y + b) ≡ P (x + a) (y + b)
     at-right e = ⊎-elim
-        (λ (k : w′ + a < w). closed (ap (λ (n : ℕ). segment n (firstLine y + b)) (omega arith) ∙ right (firstLine y) k))
+        (λ (k : w′ + a < w). closed
+        (ap (λ (n : ℕ). segment n (firstLine y + b)) (omega arith) ∙ right (firstLine y) k))
         (λ (k : w ≤ w′ + a). pass-past filter w segment P (x + a) (y + b) (omega arith))
         (either (w′ + a) w)
 
@@ -81,7 +88,9 @@ module _ {A : Type 0} (filter : A → Plane → Plane) (segment′ segment : ℕ
         ∙ sym (pass-in filter w segment P (x + a) (y + b) (omega arith) (omega arith))
       where
         parameters : segment′ (edgeOf x) (firstLine y) ≡ segment (edgeOf (x + a)) (firstLine (y + b))
-        parameters = rw (edge-moves, line-moves) (inner (edgeOf x) (firstLine y) (omega arith) (omega arith) he hw (omega arith))
+        parameters =
+            rw (edge-moves, line-moves)
+            (inner (edgeOf x) (firstLine y) (omega arith) (omega arith) he hw (omega arith))
 
         column : x + 4 - edgeOf x ≡ x + a + 4 - edgeOf (x + a)
         column = omega arith
@@ -89,11 +98,13 @@ module _ {A : Type 0} (filter : A → Plane → Plane) (segment′ segment : ℕ
         line : y - firstLine y ≡ y + b - firstLine (y + b)
         line = omega arith
 
-  pub pass-local : Agree (pass filter w′ segment′ P′) (pass filter w segment P) (record { x = a; y = b; width = w′; height = h })
+  pub pass-local : Agree (pass filter w′ segment′ P′) (pass filter w segment P)
+      (record { x = a; y = b; width = w′; height = h })
   pass-local x y hx hy = ⊎-elim
       (λ (he : 0 < edgeOf x). ⊎-elim
       (λ (hw : edgeOf x < w′). at-inner x y hx hy he hw)
       (λ (hw : w′ ≤ edgeOf x). pass-past filter w′ segment′ P′ x y hw ∙ agree x y hx hy ∙ sym (at-right x y hx hy hw))
       (either (edgeOf x) w′))
-      (λ (he : edgeOf x ≤ 0). pass-first filter w′ segment′ P′ x y (omega arith) ∙ agree x y hx hy ∙ sym (at-left x y hx hy (omega arith)))
+      (λ (he : edgeOf x ≤ 0). pass-first filter w′ segment′ P′ x y (omega arith) ∙ agree x y hx hy
+      ∙ sym (at-left x y hx hy (omega arith)))
       (either 0 (edgeOf x))

@@ -9,7 +9,7 @@ use borrow.Author.Tests.{eq-eqb, ne-eqb}
 use lib.Dec.{eqb, leb·zero}
 use Rattle.filter.specs.Segment.{Direction, Position, gate, between, segmentAt}
 use Rattle.picture.specs.declared.Cell.{Cell}
-use Rattle.picture.specs.Accepted.{Accepted}
+use Rattle.picture.specs.Accepted.{PictureOk}
 use Rattle.picture.specs.Cell.{cellOfSample}
 use Rattle.picture.specs.Cut.{IsTile, cut}
 use Rattle.picture.specs.Picture.{Picture, Planes, Settings}
@@ -24,19 +24,24 @@ use Rattle.tiles_apart.proofs.Tile.{columns-span, rows-span}
 lt-eqb : (m n : ℕ) → m < n → eqb m n ≡ false
 lt-eqb m n h = ne-eqb m n (λ e. omega arith)
 
-between-tiles : (t : Settings) (slices : List ℕ) (c : Component) (d : Direction) (p q : Cell) → between t slices c d p q false ≡ none
+between-tiles : (t : Settings) (slices : List ℕ) (c : Component) (d : Direction) (p q : Cell)
+    → between t slices c d p q false ≡ none
 unfolding between gate
 between-tiles t slices c d p q = simp and-false
 
-closed : (p : Picture) (c : Component) (d : Direction) (a b : Position) → sameTile p (a .x) (a .y) (b .x) (b .y) ≡ false → segmentAt p c d a b ≡ none
+closed : (p : Picture) (c : Component) (d : Direction) (a b : Position)
+    → sameTile p (a .x) (a .y) (b .x) (b .y) ≡ false → segmentAt p c d a b ≡ none
 unfolding segmentAt
-closed p c d a b h = rw h (between-tiles (p .settings) (p .slices) c d (cellOfSample p (a .x) (a .y)) (cellOfSample p (b .x) (b .y)))
+closed p c d a b h =
+    rw h (between-tiles (p .settings) (p .slices) c d (cellOfSample p (a .x) (a .y)) (cellOfSample p (b .x) (b .y)))
 
-pub column-closed : (p : Picture) (c : Component) (d : Direction) (a b : Position) → tileColumn p (a .x) < tileColumn p (b .x) → segmentAt p c d a b ≡ none
+pub column-closed : (p : Picture) (c : Component) (d : Direction) (a b : Position)
+    → tileColumn p (a .x) < tileColumn p (b .x) → segmentAt p c d a b ≡ none
 unfolding sameTile
 column-closed p c d a b h = closed p c d a b (simp (lt-eqb _ _ h))
 
-pub row-closed : (p : Picture) (c : Component) (d : Direction) (a b : Position) → tileRow p (a .y) < tileRow p (b .y) → segmentAt p c d a b ≡ none
+pub row-closed : (p : Picture) (c : Component) (d : Direction) (a b : Position) → tileRow p (a .y) < tileRow p (b .y)
+    → segmentAt p c d a b ≡ none
 unfolding sameTile
 row-closed p c d a b h = closed p c d a b (simp (lt-eqb _ _ h, and-false))
 
@@ -55,8 +60,10 @@ pub record InTile (p : Picture) (i j : ℕ) (a : Position) : Type 0 where
 abbrev pub moved : Picture → ℕ → ℕ → Position → Position
 moved p i j a = record { x = a .x + tileLeft p i; y = a .y + tileTop p j }
 
-module _ {p : Picture} {lent : Planes} (ok : Accepted p lent) {i j : ℕ} (tile : IsTile p i j) (a b : Position) (ha : InTile p i j a) (hb : InTile p i j b) where
-  one-tile-there : sameTile p (a .x + tileLeft p i) (a .y + tileTop p j) (b .x + tileLeft p i) (b .y + tileTop p j) ≡ true
+module _ {p : Picture} (ok : PictureOk p) {i j : ℕ} (tile : IsTile p i j) (a b : Position) (ha : InTile p i j a)
+    (hb : InTile p i j b) where
+  one-tile-there : sameTile p (a .x + tileLeft p i) (a .y + tileTop p j) (b .x + tileLeft p i) (b .y + tileTop p j)
+      ≡ true
   unfolding sameTile
   one-tile-there =
       simp (
@@ -64,12 +71,14 @@ module _ {p : Picture} {lent : Planes} (ok : Accepted p lent) {i j : ℕ} (tile 
         eq-eqb _ _ (rows-span ok tile .same (a .y) (b .y) (ha .row) (hb .row)),
       )
 
-  pub segment-moves : (c : Component) (d : Direction) → segmentAt (cut p i j) c d a b ≡ segmentAt p c d (moved p i j a) (moved p i j b)
+  pub segment-moves : (c : Component) (d : Direction)
+      → segmentAt (cut p i j) c d a b ≡ segmentAt p c d (moved p i j a) (moved p i j b)
   unfolding segmentAt cut
   segment-moves c d =
       λ k.
       between (p .settings) (p .slices) c d (cell-moves ok tile (a .x) (a .y) (ha .column) (ha .row) k)
       (cell-moves ok tile (b .x) (b .y) (hb .column) (hb .row) k) (tiles k)
     where
-      tiles : sameTile (cut p i j) (a .x) (a .y) (b .x) (b .y) ≡ sameTile p (a .x + tileLeft p i) (a .y + tileTop p j) (b .x + tileLeft p i) (b .y + tileTop p j)
+      tiles : sameTile (cut p i j) (a .x) (a .y) (b .x) (b .y)
+          ≡ sameTile p (a .x + tileLeft p i) (a .y + tileTop p j) (b .x + tileLeft p i) (b .y + tileTop p j)
       tiles = one-tile p i j (a .x) (a .y) (b .x) (b .y) ∙ sym one-tile-there

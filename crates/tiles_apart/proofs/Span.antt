@@ -1,4 +1,5 @@
--- A tile of one direction, columns or rows: where it lies, that its samples have one tile number, and that the number rises at its borders.
+-- A tile of one direction, columns or rows: where it lies, that its samples have one tile number, and that the number
+-- rises at its borders.
 use Prim.Native.Nat.{ℕ, zero, suc, _+_, _-_, _*_, _/_, _%_, _≤_, _<_}
 use mathlib.Core.Path.{_≡_, refl, ap, sym, _∙_}
 use mathlib.Core.Bool.{cond}
@@ -44,7 +45,8 @@ counted-same start c d (inr k) = counted-none start c (k .0) ∙ sym (counted-no
 -- equal where no start lies between
 tile-same : (l : List ℕ) (c d : ℕ) → ((k : ℕ) → k < length l → NotBetween (getD l k 0) c d) → tileOf l c ≡ tileOf l d
 tile-same [] c d h = refl
-tile-same (t ∷ r) c d h = omega (arith, counted-same t c d (h 0 (omega arith)), tile-same r c d (λ k l. h (suc k) (omega arith)))
+tile-same (t ∷ r) c d h =
+    omega (arith, counted-same t c d (h 0 (omega arith)), tile-same r c d (λ k l. h (suc k) (omega arith)))
 
 tile-mono : (l : List ℕ) (c d : ℕ) → c ≤ d → tileOf l c ≤ tileOf l d
 tile-mono [] c d h = omega arith
@@ -53,13 +55,17 @@ tile-mono (t ∷ r) c d h = omega (arith, counted-mono t c d h, tile-mono r c d 
 -- less where one lies between
 tile-less : (l : List ℕ) (c d k : ℕ) → k < length l → c < getD l k 0 → getD l k 0 ≤ d → tileOf l c < tileOf l d
 tile-less [] c d k h hc hd = omega arith
-tile-less (t ∷ r) c d zero h hc hd = omega (arith, counted-none t c hc, counted-one t d hd, tile-mono r c d (omega arith))
-tile-less (t ∷ r) c d (suc k) h hc hd = omega (arith, counted-mono t c d (omega arith), tile-less r c d k (omega arith) hc hd)
+tile-less (t ∷ r) c d zero h hc hd =
+    omega (arith, counted-none t c hc, counted-one t d hd, tile-mono r c d (omega arith))
+tile-less (t ∷ r) c d (suc k) h hc hd =
+    omega (arith, counted-mono t c d (omega arith), tile-less r c d k (omega arith) hc hd)
 
 -- a list that rises from each entry to the next rises
-rising-le : (l : List ℕ) → ((k : ℕ) → suc k < length l → getD l k 0 < getD l (suc k) 0) → (i k : ℕ) → i ≤ k → k < length l → getD l i 0 ≤ getD l k 0
+rising-le : (l : List ℕ) → ((k : ℕ) → suc k < length l → getD l k 0 < getD l (suc k) 0) → (i k : ℕ) → i ≤ k
+    → k < length l → getD l i 0 ≤ getD l k 0
 rising-le l rise i k h =
-    le-ind (λ (m : ℕ). m < length l → getD l i 0 ≤ getD l m 0) (λ _. le-refl (getD l i 0)) (λ m hm ih b. omega (arith, ih (omega arith), rise m b)) k h
+    le-ind (λ (m : ℕ). m < length l → getD l i 0 ≤ getD l m 0) (λ _. le-refl (getD l i 0))
+    (λ m hm ih b. omega (arith, ih (omega arith), rise m b)) k h
 
 -- ---- a tile that starts at sample a and is n samples long
 
@@ -93,8 +99,11 @@ module _ (starts : List ℕ) (many size m total i : ℕ) (size16 : size ≡ 16 *
   before-start : (k p : ℕ) → p < getD starts k 0 * size → p / size < getD starts k 0
   before-start k p h = div-lt-iff-lt-mul some .1 h
 
-  crossing : (k p : ℕ) → k < length starts → 0 < p → p ≡ getD starts k 0 * size → tileOf starts ((p - 1) / size) < tileOf starts (p / size)
-  crossing k p h z e = tile-less starts ((p - 1) / size) (p / size) k h (before-start k (p - 1) (omega arith)) (from-start k p (omega arith))
+  crossing : (k p : ℕ) → k < length starts → 0 < p → p ≡ getD starts k 0 * size
+      → tileOf starts ((p - 1) / size) < tileOf starts (p / size)
+  crossing k p h z e =
+      tile-less starts ((p - 1) / size) (p / size) k h (before-start k (p - 1) (omega arith))
+      (from-start k p (omega arith))
 
   -- it ends at the next start, or is the last
   abbrev Next : Type 0
@@ -113,13 +122,15 @@ module _ (starts : List ℕ) (many size m total i : ℕ) (size16 : size ≡ 16 *
   lies : (first < end) × (end ≤ total) × (end % 8 ≡ 0)
   lies = ⊎-elim
       (λ (h : Next).
-      let step : suc (getD starts i 0) * size ≤ getD starts (suc i) 0 * size = mul-le-mul-right size (ok .rising i (h .0)) in
+      let step : suc (getD starts i 0) * size ≤ getD starts (suc i) 0 * size =
+      mul-le-mul-right size (ok .rising i (h .0)) in
       (omega arith, omega (arith, start-in (suc i) (h .0)), omega (arith, start-16 (suc i))))
       (λ (h : Last). (omega (arith, start-in i hi), omega arith, omega arith))
       ends
 
   -- no start lies between two samples of the tile
-  none-between : (p q k : ℕ) → first ≤ p → first ≤ q → p < end → q < end → k < length starts → NotBetween (getD starts k 0) (p / size) (q / size)
+  none-between : (p q k : ℕ) → first ≤ p → first ≤ q → p < end → q < end → k < length starts
+      → NotBetween (getD starts k 0) (p / size) (q / size)
   none-between p q k hp hq ep eq hk = ⊎-elim
       (λ (h : i < k). ⊎-elim
       (λ (e : Next).

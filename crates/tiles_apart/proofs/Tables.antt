@@ -14,10 +14,12 @@ module _ (w h : ℕ) (P : Plane) where
   pub at-table : (x y : ℕ) → x < w → y < h → at (table w h P) w x y ≡ P x y
   unfolding table at
   at-table x y hx hy =
-      getD-tabulate (w * h) (λ k. P (k % w) (k / w)) (y * w + x) (within w h x y hx hy) ∙ place P (digits-mod y hx) (digits-div y hx)
+      getD-tabulate (w * h) (λ k. P (k % w) (k / w)) (y * w + x) (within w h x y hx hy)
+      ∙ place P (digits-mod y hx) (digits-div y hx)
 
 -- two lists of rows are equal by their samples
-pub ext-at : (l l′ : List ℕ) (w h : ℕ) → length l ≡ w * h → length l′ ≡ w * h → ((x y : ℕ) → x < w → y < h → at l w x y ≡ at l′ w x y) → l ≡ l′
+pub ext-at : (l l′ : List ℕ) (w h : ℕ) → length l ≡ w * h → length l′ ≡ w * h
+    → ((x y : ℕ) → x < w → y < h → at l w x y ≡ at l′ w x y) → l ≡ l′
 ext-at l l′ w h e e′ same = ext-getD 0 l l′ (e ∙ sym e′) λ k hk.
     let d = split w h k (omega arith) in
     at-split l w h k d ∙ same (k % w) (k / w) (d .column) (d .row) ∙ sym (at-split l′ w h k d)

@@ -6,119 +6,117 @@ use mathlib.Core.Path.{_≡_, refl, ap, _∙_}
 use native.Mathlib.Omega.{arith}
 use lib.ListN.{length}
 use Rattle.filter.specs.Kernel.{kernel}
+use Rattle.filter.specs.Segment.{horizontal}
 use Rattle.picture.specs.Plane.{Plane}
-use Rattle.planes.specs.Rows.{seen, crosswise}
-use Rattle.planes.proofs.Bands.{Done, done-at, done-more, horizontal-local, horizontal-none, horizontal-all, edge-room, first-edge}
-use Rattle.planes.proofs.Index.{row-le, rows-on}
+use Rattle.picture.proofs.Index.{row-le, rows-on}
+use Rattle.planes.specs.Rows.{seen}
+use Rattle.planes.proofs.Bands.{
+  Done,
+  done-at,
+  done-more,
+  horizontal-local,
+  horizontal-none,
+  horizontal-all,
+  edge-room,
+  first-edge,
+}
 use Rattle.planes.proofs.Parts.{rowsBack}
-use Rattle.segments.specs.Sides.{horizontalSegment}
+use Rattle.strips.specs.Passed.{passFor}
 use Rattle.passes.proofs.horizontal.horizontal_band.Statement.{statement}
 use Rattle.passes.proofs.horizontal.horizontal_band.Tie as tie
 
 abbrev Inv-loop : tie.InvT-loop
 Inv-loop s₀ cells slices starts k f row0 row1 e₀ s e =
     (e % 8 ≡ 0) × (8 ≤ e) × (row0 + 4 ≤ e) × (length s ≡ length s₀)
-    × Done (f .w) row0 row1 (crosswise kernel (f .h) (horizontalSegment k cells slices starts (f .log2) (f .width))) (seen (f .w) row0 s₀) (e - 4) s
+    × Done (f .columns) row0 row1 (passFor horizontal k f cells slices starts) (seen (f .columns) row0 s₀) (e - 4) s
 
 abbrev μ-loop : tie.MeasureT-loop
 μ-loop s₀ cells slices starts k f row0 row1 e₀ s e = row1 - e
 
+-- the way back to the call, over the lists that are known
+abbrev lists : tie.After-shared-slice-known3 Inv-loop μ-loop → tie.After-slice-known Inv-loop μ-loop
+lists c = c .before .before .before
+
+abbrev call : tie.At-loop Inv-loop μ-loop → tie.Start Inv-loop μ-loop
+call c = lists (c .before) .before
+
 -- the pass, by the function's arguments
 abbrev T : tie.Start Inv-loop μ-loop → Plane → Plane
-T st = crosswise kernel (st .args .f .h) (horizontalSegment (st .args .k) (st .args .cells .now) (st .args .slices .now) (st .args .starts .now) (st .args .f .log2) (st .args .f .width))
+T st =
+    let a = st .args in
+    passFor horizontal (a .k) (a .f) (a .cells .now) (a .slices .now) (a .starts .now)
+
+-- a turn: from the strip that was filtered to the bounds of its rows, and from there to the loop's test
+abbrev bounds : tie.After-horizontal-strip Inv-loop μ-loop → tie.After-struct-known2 Inv-loop μ-loop
+bounds c = c .before .before
+
+abbrev turn : tie.After-struct-known2 Inv-loop μ-loop → tie.In-loop Inv-loop μ-loop
+turn c = c .before .before
 
 -- what the products come to in a turn
 room : (c : tie.In-loop Inv-loop μ-loop)
-    → let st = c .before .before .before .before .before .before .args in
+    → let st = call (c .before) .args in
     let at = c .before .loop in
     (at .e + 4 ≤ st .row1)
-    × ((at .e + 4 - st .row0) * st .f .w ≡ (at .e - 4 - st .row0) * st .f .w + 8 * st .f .w)
-    × ((at .e + 4 - st .row0) * st .f .w ≤ length (at .s))
+    × ((at .e + 4 - st .row0) * st .f .columns ≡ (at .e - 4 - st .row0) * st .f .columns + 8 * st .f .columns)
+    × ((at .e + 4 - st .row0) * st .f .columns ≤ length (at .s))
 room c =
-    let pre = c .before .before .before .before .before .before .pre in
-    let st = c .before .before .before .before .before .before .args in
+    let pre = call (c .before) .pre in
+    let st = call (c .before) .args in
     let at = c .before .loop in
-    let f : at .e + 4 ≤ st .row1 = edge-room _ _ _ (pre .1 .1 .1) (pre .0 .h4) (omega arith) (omega arith) (omega arith) in
-    let m : (at .e + 4 - st .row0) * st .f .w ≤ (st .row1 - st .row0) * st .f .w = row-le (st .f .w) (omega arith) in
+    let w = st .f .columns in
+    let f : at .e + 4 ≤ st .row1 =
+    edge-room _ _ _ (pre .1 .1 .1) (pre .0 .rows4) (omega arith) (omega arith) (omega arith) in
+    let m : (at .e + 4 - st .row0) * w ≤ (st .row1 - st .row0) * w = row-le w (omega arith) in
     let q : at .e + 4 ≡ at .e - 4 + 8 = omega arith in
-    (f, ap (λ (n : ℕ). (n - st .row0) * st .f .w) q ∙ rows-on (st .f .w) (st .row0) (at .e - 4) 8 (omega arith), omega arith)
-
-add-e : tie.Need-add-e Inv-loop μ-loop
-add-e c = omega (arith, c .before .before .before .before .pre .0 .h-most)
-
-mul-e : tie.Need-mul-e Inv-loop μ-loop
-mul-e c = omega (arith, c .before .before .before .before .pre .0 .h-most)
+    (f, ap (λ (n : ℕ). (n - st .row0) * w) q ∙ rows-on w (st .row0) (at .e - 4) 8 (omega arith), omega arith)
 
 loop-holds : tie.Need-loop-holds Inv-loop μ-loop
 loop-holds c =
-    let st = c .before .before .before .before in
-    let f : st .args .row0 + 4 ≤ (st .args .row0 / 8 + 1) * 8 = first-edge _ _ (st .pre .1 .1 .0) (st .pre .0 .h4) in
-    (omega arith, omega arith, f, refl, horizontal-none kernel _ _ _ _ _ _ (st .args .s .now) refl (st .pre .1 .1 .0) (omega arith))
-
-sub-a : tie.Need-sub-a Inv-loop μ-loop
-sub-a c = omega arith
-
-sub-a-2 : tie.Need-sub-a-2 Inv-loop μ-loop
-sub-a-2 c = omega arith
-
-mul-a : tie.Need-mul-a Inv-loop μ-loop
-mul-a c = omega (arith, room (c .before))
-
-add-b : tie.Need-add-b Inv-loop μ-loop
-add-b c = omega (arith, c .before .before .before .before .before .before .before .pre .0 .h-most)
-
-sub-b : tie.Need-sub-b Inv-loop μ-loop
-sub-b c = omega arith
-
-mul-b : tie.Need-mul-b Inv-loop μ-loop
-mul-b c = omega (arith, room (c .before .before))
-
-mul-horizontal-strip : tie.Need-mul-horizontal-strip Inv-loop μ-loop
-mul-horizontal-strip c = omega (arith, room (c .before .before))
-
-sub-horizontal-strip : tie.Need-sub-horizontal-strip Inv-loop μ-loop
-sub-horizontal-strip c = omega (arith, room (c .before .before))
-
-part-horizontal-strip-start : tie.Need-part-horizontal-strip-start Inv-loop μ-loop
-part-horizontal-strip-start c = omega (arith, room (c .before .before))
-
-part-horizontal-strip-end : tie.Need-part-horizontal-strip-end Inv-loop μ-loop
-part-horizontal-strip-end c = omega (arith, room (c .before .before))
+    let st = lists c .before in
+    let seam = st .pre .1 .1 .0 in
+    let f : st .args .row0 + 4 ≤ (st .args .row0 / 8 + 1) * 8 = first-edge _ _ seam (st .pre .0 .rows4) in (
+      omega arith,
+      omega arith,
+      f,
+      refl,
+      horizontal-none kernel _ _ _ _ _ _ (st .args .s .now) refl seam (omega arith),
+    )
 
 horizontal-strip-requires : tie.Need-horizontal-strip-requires Inv-loop μ-loop
-horizontal-strip-requires c κs = (c .before .before .before .before .before .before .before .before .before .pre .0, omega (arith, room (c .before .before .before)))
-
-add-e-2 : tie.Need-add-e-2 Inv-loop μ-loop
-add-e-2 c = omega (arith, c .before .before .before .before .before .before .before .before .before .before .before .before .pre .0 .h-most)
-
-loop-less : tie.Need-loop-less Inv-loop μ-loop
-loop-less c = omega arith
+horizontal-strip-requires c κs =
+    let in-loop = turn (c .before) in
+    (call (in-loop .before) .pre .0, omega (arith, room in-loop))
 
 loop-again : tie.Need-loop-again Inv-loop μ-loop
 loop-again c =
-    let t = c .before .before .before .before .before .before in
-    let st = t .before .before .before .before .before .before in
-    let at = t .before .loop in
-    let call = c .before .before .horizontal-strip in
-    let f : at .e + 4 ≤ st .args .row1 = room t .0 in (
+    let done = c .before .before in
+    let in-loop = turn (bounds done) in
+    let st = call (in-loop .before) in
+    let pre = st .pre .0 in
+    let at = in-loop .before .loop in
+    let strip = done .horizontal-strip in
+    let f : at .e + 4 ≤ st .args .row1 = room in-loop .0 in (
       omega arith,
       omega arith,
       omega arith,
       omega arith,
-      done-at _ _ _ (T st) _ (rowsBack (st .args .f .w) (st .args .row0) (at .e - 4) (at .e + 4) (at .s) (call .last .0)) (omega arith)
-          (done-more (st .args .f .w) (st .args .row0) (st .args .row1) (at .e - 4) (at .e + 4) (T st)
-          (horizontal-local kernel _ _ _ _ _ (st .pre .0 .w4) (st .pre .0 .h4) (inr (inr (omega arith))) (inr (inr (omega arith)))) _
-          (at .s) (call .last .0) (omega arith) (omega arith) (omega arith) (room t .2) (call .kept .0) (call .ensures) (at .inv .4)),
+      done-at _ _ _ (T st) _ (rowsBack _ (st .args .row0) (at .e - 4) (at .e + 4) (at .s) (strip .last .0))
+          (omega arith)
+          (done-more _ _ _ (at .e - 4) (at .e + 4) (T st)
+          (horizontal-local kernel _ _ _ _ _ (pre .columns4) (pre .rows4) (inr (inr (omega arith)))
+          (inr (inr (omega arith)))) _
+          (at .s) (strip .last .0) (omega arith) (omega arith) (omega arith) (room in-loop .2) (strip .kept .0)
+          (strip .ensures) (at .inv .4)),
     )
-
-same-length : tie.Need-same-length Inv-loop μ-loop
-same-length c = c .before .loop .inv .3
 
 returns : tie.Need-returns Inv-loop μ-loop
 returns c =
-    let st = c .before .before .before .before .before .before in
+    let st = call (c .before) in
     let at = c .before .loop in
-    horizontal-all kernel _ _ _ _ _ _ _ (at .s) (at .inv .0) (c .loop-test .left) (st .pre .1 .1 .1) (st .pre .0 .h4) (at .inv .4)
+    horizontal-all kernel _ _ _ _ _ _ _ (at .s) (at .inv .0) (c .loop-test .left) (st .pre .1 .1 .1)
+    (st .pre .0 .rows4)
+    (at .inv .4)
 
 pub horizontal-band-spec : {M : Type 1} → statement M
 horizontal-band-spec =
@@ -126,22 +124,22 @@ horizontal-band-spec =
     (tie.spec
     Inv-loop
     μ-loop
-    add-e
-    mul-e
+    (λ c. omega (arith, lists c .before .pre .0 .rows-most))
+    (λ c. omega (arith, lists c .before .pre .0 .rows-most))
     loop-holds
-    sub-a
-    sub-a-2
-    mul-a
-    add-b
-    sub-b
-    mul-b
-    mul-horizontal-strip
-    sub-horizontal-strip
-    part-horizontal-strip-start
-    part-horizontal-strip-end
+    (λ c. omega arith)
+    (λ c. omega arith)
+    (λ c. omega (arith, room (c .before)))
+    (λ c. omega (arith, call (c .before .before) .pre .0 .rows-most))
+    (λ c. omega arith)
+    (λ c. omega (arith, room (turn c)))
+    (λ c. omega (arith, room (turn c)))
+    (λ c. omega (arith, room (turn c)))
+    (λ c. omega (arith, room (turn c)))
+    (λ c. omega (arith, room (turn c)))
     horizontal-strip-requires
-    add-e-2
-    loop-less
+    (λ c. omega (arith, call (turn (bounds (c .before .before)) .before) .pre .0 .rows-most))
+    (λ c. omega arith)
     loop-again
-    same-length
+    (λ c. c .before .loop .inv .3)
     returns)

@@ -15,35 +15,28 @@ Inv-loop cells pcm count n₀ n = (n ≤ count) × ((k : ℕ) → k < n → supp
 abbrev μ-loop : tie.MeasureT-loop
 μ-loop cells pcm count n₀ n = count - n
 
-loop-holds : tie.Need-loop-holds Inv-loop μ-loop
-loop-holds c = (omega arith, below-none _)
-
-sample-suppressed-requires : tie.Need-sample-suppressed-requires Inv-loop μ-loop
-sample-suppressed-requires c κs = omega arith
-
+-- a cell that is suppressed was found
 returns : tie.Need-returns Inv-loop μ-loop
-returns c = record {
-  some = λ _.
-      record {
-        number = c .before .before .before .loop .n;
-        listed = c .before .before .loop-test .taken;
-        is = sym (c .before .sample-suppressed .ensures) ∙ c .if1 .taken;
-      };
-  none = λ no. absurd (true≢false no);
-}
-
-add-n : tie.Need-add-n Inv-loop μ-loop
-add-n c = omega arith
-
-loop-less : tie.Need-loop-less Inv-loop μ-loop
-loop-less c = omega arith
+returns c =
+    let in-loop = c .before .before in
+    record {
+      some = λ _.
+          record {
+            number = in-loop .before .loop .n;
+            listed = in-loop .loop-test .taken;
+            is = sym (c .before .sample-suppressed .ensures) ∙ c .if1 .taken;
+          };
+      none = λ no. absurd (true≢false no);
+    }
 
 loop-again : tie.Need-loop-again Inv-loop μ-loop
 loop-again c = (
   omega arith,
-  below-more _ _ (c .before .before .before .loop .inv .1) (sym (c .before .sample-suppressed .ensures) ∙ c .if1 .left),
+  below-more _ _ (c .before .before .before .loop .inv .1)
+      (sym (c .before .sample-suppressed .ensures) ∙ c .if1 .left),
 )
 
+-- none was
 returns-2 : tie.Need-returns-2 Inv-loop μ-loop
 returns-2 c = record {
   some = λ no. absurd (true≢false (sym no));
@@ -56,10 +49,10 @@ any-suppressed-spec =
     (tie.spec
     Inv-loop
     μ-loop
-    loop-holds
-    sample-suppressed-requires
+    (λ c. (omega arith, below-none _))
+    (λ c κs. omega arith)
     returns
-    add-n
-    loop-less
+    (λ c. omega arith)
+    (λ c. omega arith)
     loop-again
     returns-2)

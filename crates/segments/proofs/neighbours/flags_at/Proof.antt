@@ -1,21 +1,13 @@
--- `flags_at` meets its contract: the number of the cell is that of its column and row.
+-- `flags_at` meets its contract: they are the cell's.
 -- Assumes nothing.
-use Rattle.segments.proofs.Gates.{flags-made}
+use mathlib.Core.Path.{ap}
 use borrow.Author.Needs.{needs}
+use Rattle.picture.specs.declared.Cell.{Cell}
 use Rattle.segments.proofs.neighbours.flags_at.Statement.{statement}
 use Rattle.segments.proofs.neighbours.flags_at.Tie as tie
 
-cell-requires : tie.Need-cell-requires
-cell-requires c κs = search needs
-
-cell-number-requires : tie.Need-cell-number-requires
-cell-number-requires c κs = search needs
-
-cell-at-requires : tie.Need-cell-at-requires
-cell-at-requires c κs = search needs
-
 returns : tie.Need-returns
-returns c = flags-made _ _ _ _ _ _ _ (c .before .before .cell .ensures) (c .before .cell-number .ensures) (c .cell-at .ensures)
+returns c = ap (λ (q : Cell). q .flags) (c .cell-of .ensures)
 
 pub flags-at-spec : {M : Type 1} → statement M
-flags-at-spec = tie.close (tie.spec cell-requires cell-number-requires cell-at-requires returns)
+flags-at-spec = tie.close (tie.spec (λ c κs. search needs) returns)

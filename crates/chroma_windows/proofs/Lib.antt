@@ -1,0 +1,2 @@
+mod PairRows
+mod Pairs

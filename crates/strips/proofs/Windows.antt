@@ -1,0 +1,56 @@
+-- A segment's window by what the segment says: filtered, and what was done there.
+use Prim.Native.Nat.{ℕ}
+use mathlib.Core.Path.{_≡_, refl, sym, ap, _∙_, subst}
+use mathlib.Core.List.{List}
+use mathlib.Core.Option.{Option}
+use Rattle.filter.specs.declared.ChromaFilter.{ChromaFilter}
+use Rattle.filter.specs.declared.LumaFilter.{LumaFilter}
+use Rattle.filter.specs.Answer.{lumaOf, chromaOf}
+use Rattle.filter.specs.Kernel.{Filter, kernel, lineOf}
+use Rattle.lines.specs.declared.LumaDecision.{LumaDecision}
+use Rattle.lines.specs.Answer.{caseOf}
+use Rattle.lines.specs.Decision.{decision}
+use Rattle.strips.specs.declared.Treatment.{Treatment}
+use Rattle.strips.specs.declared.Treatment.the-variants.{Closed, Luma, Chroma}
+use Rattle.strips.specs.Passed.{treatment}
+use Rattle.picture.specs.Plane.{Plane}
+use Rattle.planes.specs.Window.{windowAt, Filtered, taken}
+use Rattle.planes.proofs.Windows.{filtered-same}
+use Rattle.segments.specs.declared.Segment.{Segment}
+use Rattle.segments.specs.declared.Segment.the-variants as Case
+use Rattle.segments.specs.Between.{optionOf}
+
+-- a window that was filtered as o says, and what was done there
+pub record Treated (o : Option Filter) (base across along : ℕ) (xs ys : List ℕ) (d : Treatment) : Type 0 where
+  pub filtered : Filtered 4 (taken kernel o) base across along xs ys
+  pub done : d ≡ treatment o (windowAt xs base across along)
+
+-- by a filter of another name
+pub treated-as : {a b : Option Filter} (base across along : ℕ) {xs ys : List ℕ} {d : Treatment} → a ≡ b
+    → Filtered 4 (taken kernel a) base across along xs ys → d ≡ treatment a (windowAt xs base across along)
+    → Filtered 4 (taken kernel b) base across along xs ys × (d ≡ treatment b (windowAt xs base across along))
+treated-as base across along {xs} {ys} {d} e f t =
+    let h = subst (λ (o : Option Filter). Treated o base across along xs ys d) e (record { filtered = f; done = t }) in
+    (h .filtered, h .done)
+
+pub closed : (base across along : ℕ) {xs : List ℕ} (r : Segment) → r ≡ Case.Closed
+    → Filtered 4 (taken kernel (optionOf r)) base across along xs xs
+    × (Closed ≡ treatment (optionOf r) (windowAt xs base across along))
+closed base across along {xs} r e =
+    treated-as base across along (ap optionOf (sym e)) (filtered-same _ base across along xs (λ i j hi hj. refl)) refl
+
+module _ (base across along : ℕ) {xs ys : List ℕ} where
+  pub luma : (r : Segment) (t : LumaFilter) {d : LumaDecision} → r ≡ Case.Luma t
+      → Filtered 4 (kernel (lumaOf t)) base across along xs ys
+      → d ≡ caseOf
+      (decision (t .beta) (t .tc) (lineOf (windowAt xs base across along) 0)
+      (lineOf (windowAt xs base across along) 3))
+      → Filtered 4 (taken kernel (optionOf r)) base across along xs ys
+      × (Luma d ≡ treatment (optionOf r) (windowAt xs base across along))
+  luma r t e f d = treated-as base across along (ap optionOf (sym e)) f (ap Luma d)
+
+  pub chroma : (r : Segment) (t : ChromaFilter) → r ≡ Case.Chroma t
+      → Filtered 4 (kernel (chromaOf t)) base across along xs ys
+      → Filtered 4 (taken kernel (optionOf r)) base across along xs ys
+      × (Chroma ≡ treatment (optionOf r) (windowAt xs base across along))
+  chroma r t e f = treated-as base across along (ap optionOf (sym e)) f refl

@@ -1,4 +1,0 @@
-pub mod Beside
-pub mod Lines
-pub mod Pairs
-pub mod Turn
