@@ -1,5 +1,5 @@
--- Records whose text the definitions compute to: case S1, which prints what document 01 shows, whole; one that a decision for each line would
--- print otherwise; and the refusals in their order.
+-- Records whose text the definitions compute to: case S1, which prints what document 01 shows, whole; one that a
+-- decision for each line would print otherwise; a refusal; a short record; and none.
 -- Assumes nothing.
 use Prim.Native.Nat.{ℕ}
 use mathlib.Core.Path.{_≡_, refl}
@@ -11,7 +11,11 @@ use Rattle.thresholds.specs.Luma.{averageQp, betaIndex, tcIndex, scaled, lumaBe
 use Rattle.lines.specs.Decision.{activity, dSam, decision}
 use Rattle.lines.specs.Luma.{near, strongLine, lumaLine}
 use Rattle.text.specs.Text.{decimalIn, decimal}
-use Rattle.bench.specs.Bench.{sampleAt, lineAt, depthBad, offsetsBad, qpBad, othersBad, largestSample, sideAbove, lineAbove, samplesAbove, refusalOf, qpOf, betaOf, tcOf, printedTc, decisionOf, wordText, firstText, fourText, lineText, linesText, segmentText, refusedText, shortText, recordText, benchText}
+use Rattle.bench_record.specs.Record.{sampleAt, lineOfRecord}
+use Rattle.bench_record.specs.Refusal.{othersBad, sideAbove, lineAbove, samplesAbove, refusalOf}
+use Rattle.bench.specs.Bench.{recordQp, recordBeta, recordTc, printedTc, recordDecision}
+use Rattle.bench_lines.specs.Lines.{wordText, firstText, fourText, lineText, linesText, refusedText}
+use Rattle.bench.specs.Bench.{segmentText, shortText, recordText, benchText}
 
 -- depth 8, bS 2, both QP 37, offsets 0
 abbrev s1Head : List ℕ
@@ -49,26 +53,18 @@ parts first line other = first ++ (line ++ (other ++ (line ++ line)))
 pub prints :
     (benchText (parts s1Head s1Line s1Line) ≡ parts strongText s1Text s1Text)
     × (benchText (parts s1Head s1Line roughLine) ≡ parts strongText s1Text roughText)
-unfolding benchText recordText refusalOf depthBad offsetsBad othersBad qpBad samplesAbove lineAbove sideAbove largestSample sampleAt lineAt
-    segmentText firstText wordText printedTc tcOf betaOf qpOf decisionOf linesText lineText fourText decimal decimalIn
+unfolding benchText recordText refusalOf othersBad samplesAbove lineAbove sideAbove sampleAt lineOfRecord
+    segmentText firstText wordText printedTc recordTc recordBeta recordQp recordDecision
+    linesText lineText fourText decimal decimalIn
     averageQp betaIndex tcIndex scaled lumaBeta lumaTc BETA TC activity dSam decision lumaLine strongLine near
     _⊖_ _⊞_ _⊟_ neg _⊠_ lt _>>_ clip3 abs natOf
 prints = (refl, refl)
 
--- a sample 256, which is above the largest at depth 8
-abbrev highLine : List ℕ
-highLine = 0 ∷ 1 ∷ 100 ∷ 0 ∷ 100 ∷ 0 ∷ 100 ∷ 0 ∷ 104 ∷ 0 ∷ 104 ∷ 0 ∷ 104 ∷ 0 ∷ 104 ∷ 0 ∷ []
-
--- Each record has the cause after its own as well, so the order shows: depth 7, an offset byte 13, bS 3 or a QP byte 63 or a byte that
--- is not zero, a sample 256. Then a record that is short by one byte, and none.
-pub refusals :
-    (benchText (parts (7 ∷ 2 ∷ 101 ∷ 101 ∷ 13 ∷ 6 ∷ 0 ∷ 0 ∷ []) s1Line s1Line) ≡ refusedText 3)
-    × (benchText (parts (8 ∷ 3 ∷ 101 ∷ 101 ∷ 6 ∷ 13 ∷ 0 ∷ 0 ∷ []) s1Line s1Line) ≡ refusedText 7)
-    × (benchText (parts (8 ∷ 3 ∷ 101 ∷ 101 ∷ 6 ∷ 6 ∷ 0 ∷ 0 ∷ []) highLine highLine) ≡ refusedText 9)
-    × (benchText (parts (8 ∷ 2 ∷ 101 ∷ 63 ∷ 6 ∷ 6 ∷ 0 ∷ 0 ∷ []) highLine highLine) ≡ refusedText 9)
-    × (benchText (parts (8 ∷ 2 ∷ 101 ∷ 101 ∷ 6 ∷ 6 ∷ 0 ∷ 1 ∷ []) highLine highLine) ≡ refusedText 9)
-    × (benchText (parts s1Head highLine highLine) ≡ refusedText 10)
+-- `refused 9`: bS 3; `short`: a record that is short by one byte; nothing
+pub others :
+    (benchText (parts (8 ∷ 3 ∷ 101 ∷ 101 ∷ 6 ∷ 6 ∷ 0 ∷ 0 ∷ []) s1Line s1Line)
+    ≡ 114 ∷ 101 ∷ 102 ∷ 117 ∷ 115 ∷ 101 ∷ 100 ∷ 32 ∷ 57 ∷ 10 ∷ [])
     × (benchText (take 71 (parts s1Head s1Line s1Line)) ≡ shortText)
     × (benchText [] ≡ [])
-unfolding benchText recordText refusalOf depthBad offsetsBad othersBad qpBad samplesAbove lineAbove sideAbove largestSample sampleAt lineAt
-refusals = (refl, refl, refl, refl, refl, refl, refl, refl)
+unfolding benchText recordText refusalOf othersBad refusedText decimal decimalIn
+others = (refl, refl, refl)

@@ -1,32 +1,24 @@
 // The segment bench: the text that one 72-byte record prints.
-mod fields;
-mod refusal;
 mod segment;
-mod writing;
 
-ghost use mathlib.Core.Path.{_≡_};
 ghost use Prim.Native.Nat.{_≤_};
-ghost use lib.ListN.{length, take, drop};
-ghost use Rattle.text.specs.Text.{Appended};
+ghost use lib.ListN.{length};
+ghost use Rattle.text.specs.Text.{Puts};
 ghost use Rattle.bench.specs.Bench.{benchText, recordText};
-use refusal::refusal;
 use segment::put_segment;
-use writing::put_refusal;
 
 // Puts the text of a record at the start of `out`, and answers its length; the longest has 13 + 4 * 48 bytes.
 // The input is what was left to read. Where that is more than a record, the first one counts.
 pub fn bench_text(input: &[u8], out: &mut [u8; 256]) -> usize
-    ensures { λ r. ⌜ take r (now (out .exit)) ≡ benchText (now (input .entry)) ⌝ }
+    ensures { λ r. ⌜ Puts out 0 (benchText (now (input .entry))) r ⌝ }
     ensures { λ r. ⌜ r ≤ 256 ⌝ }
-    ensures { λ r. ⌜ drop r (now (out .exit)) ≡ drop r (now (out .entry)) ⌝ }
-    ensures { λ _. ⌜ length (now (out .exit)) ≡ 256 ⌝ }
 {
     put_text(input, out)
 }
 
 fn put_text(input: &[u8], out: &mut [u8]) -> usize
     requires { ⌜ 256 ≤ length (now out) ⌝ }
-    ensures { λ r. ⌜ Appended 0 (benchText (now (input .entry))) (now (out .entry)) (now (out .exit)) r ⌝ }
+    ensures { λ r. ⌜ Puts out 0 (benchText (now (input .entry))) r ⌝ }
     ensures { λ r. ⌜ r ≤ 256 ⌝ }
 {
     if input.len() == 0 {
@@ -41,13 +33,13 @@ fn put_text(input: &[u8], out: &mut [u8]) -> usize
 // A whole record: its refusal, or its segment.
 fn put_record(input: &[u8], out: &mut [u8]) -> usize
     requires { ⌜ (72 ≤ length (now input)) × (256 ≤ length (now out)) ⌝ }
-    ensures { λ r. ⌜ Appended 0 (recordText (now (input .entry))) (now (out .entry)) (now (out .exit)) r ⌝ }
+    ensures { λ r. ⌜ Puts out 0 (recordText (now (input .entry))) r ⌝ }
     ensures { λ r. ⌜ r ≤ 256 ⌝ }
 {
-    let n = refusal(input);
+    let n = bench_record::refusal_of(input);
     if n == 0 {
         put_segment(input, out)
     } else {
-        put_refusal(out, 0, n)
+        bench_lines::put_refusal(out, 0, n)
     }
 }

@@ -2,8 +2,8 @@
 use libc::STDIN_FILENO;
 use libc::STDOUT_FILENO;
 
-// Reads one record, writes its text, and answers whether to go on: not past the end of the input,
-// which a record shorter than 72 bytes shows, nor after a write that failed.
+// Reads one record, writes its text, and answers whether to go on: not past the end of the input, which a record
+// shorter than 72 bytes shows, nor after a write that failed.
 fn one_record() -> bool {
     let mut record = [0u8; 72];
     let got = io::read_full(STDIN_FILENO, &mut record);
@@ -16,8 +16,8 @@ fn one_record() -> bool {
     is_written
 }
 
-// A proved loop has to end, and nothing says that the input does. So the loop counts its turns
-// down, from a number that no run uses up.
+// A proved loop has to end, and nothing says that the input does. So the loop counts its turns down, from a number
+// that no run uses up.
 pub fn run() {
     let mut turns = u64::MAX;
     while turns > 0 && one_record() {

@@ -12,15 +12,6 @@ returns : tie.Need-returns
 unfolding benchText
 returns c = (rw (eq-eqb _ _ (c .if1 .taken)) (appended-none 0 _), omega arith)
 
-slice-aggregate-put-bytes : tie.Need-slice-aggregate-put-bytes
-slice-aggregate-put-bytes c = search needs
-
-put-bytes-requires : tie.Need-put-bytes-requires
-put-bytes-requires c κs = search needs
-
-same-length : tie.Need-same-length
-same-length c = search needs
-
 returns-2 : tie.Need-returns-2
 unfolding benchText
 returns-2 c =
@@ -28,28 +19,25 @@ returns-2 c =
     let test = put .before .before .before in
     (rw (ne-eqb _ _ (test .before .if1 .left), lt-ltb _ _ (test .if2 .taken)) (put .put-bytes .ensures), omega arith)
 
-put-record-requires : tie.Need-put-record-requires
-put-record-requires c κs = search needs
-
-same-length-2 : tie.Need-same-length-2
-same-length-2 c = search needs
-
 returns-3 : tie.Need-returns-3
 unfolding benchText
 returns-3 c =
     let put = c .before .before in
-    let test = put .before .before in
-    (rw (ne-eqb _ _ (test .before .if1 .left), le-ltb _ _ (test .if2 .left)) (put .put-record .ensures .0), omega arith)
+    let test = put .before .before in (
+      rw (ne-eqb _ _ (test .before .if1 .left), le-ltb _ _ (test .if2 .left))
+          (put .put-record .ensures .0),
+      omega arith,
+    )
 
 pub put-text-spec : {M : Type 1} → statement M
 put-text-spec =
     tie.close
     (tie.spec
     returns
-    slice-aggregate-put-bytes
-    put-bytes-requires
-    same-length
+    (λ c. search needs)
+    (λ c κs. search needs)
+    (λ c. search needs)
     returns-2
-    put-record-requires
-    same-length-2
+    (λ c κs. search needs)
+    (λ c. search needs)
     returns-3)
