@@ -1,38 +1,60 @@
 -- A tile of an accepted picture: what the code needs of it, and that what the code compares is the tile and its cut.
-use Prim.Native.Nat.{ℕ, _*_, _≤_, _<_}
+use Prim.Native.Nat.{ℕ, _*_, _≤_}
 use mathlib.Core.Path.{_≡_, sym, ap, _∙_, subst}
-use mathlib.Core.Bool.{Bool, true, false, cond}
-use mathlib.Core.List.{List, []}
+use mathlib.Core.Bool.{Bool, true, false}
+use mathlib.Core.List.{List}
 use native.Mathlib.Omega.{arith}
-use borrow.Author.Tests.{eq-eqb, ne-eqb, le-leb, lt-leb}
-use lib.Dec.{eqb}
+use borrow.Author.Tests.{leb-false}
 use lib.ListN.{length}
-use Rattle.checks.specs.declared.Verdict as Answer
-use Rattle.checks.specs.Numbered.{numbered}
+use Rattle.checks.proofs.Areas.{from-luma-most}
+use Rattle.checks.proofs.Tests.{any-of, orOf}
 use Rattle.filter.specs.Count.{differences}
 use Rattle.filter.specs.Finished.{outputs}
 use Rattle.picture.specs.declared.Settings as Code
 use Rattle.picture.specs.Accepted.{Accepted, PlanesOk}
-use Rattle.picture.specs.Cut.{IsTile, tilePart, cut}
-use Rattle.picture.specs.Given.{given, planes}
-use Rattle.picture.specs.Ledger.{acceptance, anyOf, verdict}
-use Rattle.picture.specs.Picture.{Picture, Planes, planeWidth, planeHeight}
+use Rattle.picture.specs.Cut.{IsTile, cut, tilePart}
+use Rattle.picture.specs.Given.{bare}
+use Rattle.picture.specs.Ledger.{anyOf}
+use Rattle.picture.specs.Picture.{Picture, Planes, planeHeight, planeWidth}
 use Rattle.picture.specs.Plane.{Part}
-use Rattle.picture.specs.Scale.{Component, Y, Cb, Cr, Sampling, whole, halved, absent, samplingAcross, samplingDown, fromLuma, cellOf}
-use Rattle.picture.proofs.Causes.{eq-not, not-eq, none-in, none-out}
+use Rattle.picture.specs.Scale.{Component, Y, Cb, Cr, cellOf, samplingAcross, samplingDown}
+use Rattle.picture.proofs.Ledger.{none-out, not-eq}
+use Rattle.tile_parts.specs.declared.TileAt.{TileAt}
+use Rattle.tile_parts.specs.Cuts.{CutReady, Rooms, Sized}
+use Rattle.tile_parts.specs.Parts.{Room, bytesPart}
+use Rattle.tile_parts.specs.Tiles.{OnPicture, noTileAt, tiled}
 use Rattle.tiles_apart.proofs.Parts.{Inside}
-use Rattle.tiles_apart.proofs.Term3.{term3}
-use Rattle.tiles_apart.proofs.Tile.{columns-span, rows-span, part-inside, cells-inside, cells-rows}
-use Rattle.tile_check.specs.Answer.{Outcome, refused, noTile, lengths, differing, Scratch, ScratchOk, Checkable, scratch, noTileAt, badScratch, compared, written, outcome, after}
-use Rattle.tile_check.specs.Parts.{Room, OnPicture, bytesPart}
-use Rattle.tile_check.specs.Ready.{alone, Rooms, Sized, CutReady, partPlanes, partCells, oneTile, filteredPart, differingPlanes}
+use Rattle.tiles_apart.proofs.Tile.{cells-inside, cells-rows, columns-span, part-inside, rows-span}
+use Rattle.tile_check.specs.Alone.{CompareReady, alone, differingAlone, filteredAlone}
+use Rattle.tile_check.specs.Answer.{
+  Outcome,
+  Scratch,
+  ScratchOk,
+  badScratch,
+  compared,
+  cutAt,
+  differing,
+  lengths,
+  noTile,
+  scratch,
+  written,
+}
 
-scaled-most : (k : Sampling) (n : ℕ) → fromLuma k n ≤ n
-scaled-most whole n = omega arith
-scaled-most halved n = omega arith
-scaled-most absent n = omega arith
-
--- ---- the lists lent for the cut
+-- a picture's sizes and settings as the code holds them
+abbrev pub codeOf : Picture → Code.Settings
+codeOf p =
+    let t = p .settings in
+    record {
+      width = p .width;
+      height = p .height;
+      «chroma_format» = t .format;
+      «luma_depth» = t .luma-depth;
+      «chroma_depth» = t .chroma-depth;
+      «log2_ctb» = t .log2-ctb;
+      «cb_qp_offset» = t .cb-offset;
+      «cr_qp_offset» = t .cr-offset;
+      «pcm_loop_filter_disabled» = t .pcm-loop-filter-disabled;
+    }
 
 scratch-out : (q : Picture) (s : Scratch) → anyOf (badScratch q s) ≡ false → ScratchOk q s
 scratch-out q s e =
@@ -43,190 +65,148 @@ scratch-out q s e =
       cells = not-eq _ _ cells;
     }
 
-scratch-in : (q : Picture) (s : Scratch) → ScratchOk q s → anyOf (badScratch q s) ≡ false
-scratch-in q s ok =
-    none-in (badScratch q s)
-    (eq-not _ _ (ok .originals Y), (eq-not _ _ (ok .originals Cb), (eq-not _ _ (ok .originals Cr), (eq-not _ _ (ok .own Y), (eq-not _ _ (ok .own Cb), (eq-not _ _ (ok .own Cr), (eq-not _ _ (ok .cells), tt)))))))
-
--- ---- the picture as the code is given it
-
-module _ (s : Code.Settings) (originals : Planes) (cells slices columns rows : List ℕ) (i j : ℕ) where
-  abbrev p : Picture
-  p = given s originals cells slices columns rows
-
+module _ (p : Picture) (at : TileAt) where
   abbrev luma : Part
-  luma = tilePart p i j Y
+  luma = tilePart p (at .column) (at .row) Y
 
-  -- the tests of the lists lent for the cut, by the settings that the code makes for it
-  scratch-as : (part : Part) → part ≡ luma → (own : Code.Settings) → own ≡ alone s part → (l : Scratch)
-      → anyOf (badScratch (given own (planes [] [] []) [] [] [] []) l) ≡ anyOf (badScratch (cut p i j) l)
-  unfolding cut
-  scratch-as part e own eo l = ap (λ (o : Code.Settings). anyOf (badScratch (given o (planes [] [] []) [] [] [] []) l)) (eo ∙ ap (alone s) e)
+  -- what is answered, and what the lists hold after it
+  abbrev Answered : Outcome → Scratch → Scratch → Planes → Type 0
+  Answered o l left out = (o ≡ compared p at l out) × (left ≡ written p at l)
 
-  module _ {lent : Planes} (ok : Accepted p lent) (tile : IsTile p i j) where
-    pub on-picture : OnPicture s columns rows i j
-    on-picture =
-        let X = columns-span ok tile in
-        let Z = rows-span ok tile in
-        record {
-          tile = record { column = tile .column; row = tile .row };
-          ctb = ok .settings .ctb-high;
-          across = omega (arith, X .least);
-          down = omega (arith, Z .least);
-        }
+  -- ---- whether the tile is there, as the code tests it
 
-    luma-small : (luma .x ≤ 8192) × (luma .width ≤ 8192) × (luma .height ≤ 8192)
+  pub no-tile : orOf (noTileAt p at) ≡ true → (l : Scratch) (out : Planes) → Answered noTile l l out
+  unfolding compared written
+  no-tile e l out = let none = sym (any-of (noTileAt p at)) ∙ e in (rw none, rw none)
+
+  module _ {lent : Planes} (ok : Accepted p lent) (there : orOf (noTileAt p at) ≡ false) where
+    some : anyOf (noTileAt p at) ≡ false
+    some = sym (any-of (noTileAt p at)) ∙ there
+
+    tile : IsTile p (at .column) (at .row)
+    tile =
+        let (column, (row, _)) = none-out (noTileAt p at) some in
+        record { column = leb-false _ _ column; row = leb-false _ _ row }
+
+    pub on-picture : OnPicture (tiled (codeOf p) (p .columns) (p .rows)) at
+    on-picture = record {
+      tile = record { column = tile .column; row = tile .row };
+      ctb = ok .picture .settings .ctb-high;
+    }
+
+    -- ---- where the tile lies
+
+    luma-small : (luma .width ≤ 8192) × (luma .height ≤ 8192)
     luma-small =
-        let X = columns-span ok tile in
-        let Z = rows-span ok tile in
-        (omega (arith, X .fits, ok .width .most), omega (arith, X .fits, ok .width .most), omega (arith, Z .fits, ok .height .most))
+        let X = columns-span (ok .picture) tile in
+        let Z = rows-span (ok .picture) tile in
+        (omega (arith, X .fits, ok .picture .width .most), omega (arith, Z .fits, ok .picture .height .most))
 
-    plane-room : (c : Component) (l : List ℕ) → length l ≡ planeWidth p c * planeHeight p c → Room (tilePart p i j c) (planeWidth p c) l
+    plane-room : (c : Component) (l : List ℕ) → length l ≡ planeWidth p c * planeHeight p c
+        → Room (tilePart p (at .column) (at .row) c) (planeWidth p c) l
     plane-room c l long =
-        let inside : Inside (tilePart p i j c) (planeWidth p c) (planeHeight p c) = part-inside ok tile c in
+        let inside : Inside (tilePart p (at .column) (at .row) c) (planeWidth p c) (planeHeight p c) =
+        part-inside (ok .picture) tile c in
         record {
           rows = planeHeight p c;
           long = long;
           columns = inside .columns;
           down = inside .rows;
-          wide = omega (arith, scaled-most (samplingAcross (p .settings .format) c) (p .width), ok .width .most);
-          high = omega (arith, scaled-most (samplingDown (p .settings .format) c) (p .height), ok .height .most);
+          wide =
+              omega
+              (arith, from-luma-most (samplingAcross (p .settings .format) c) (ok .picture .width .most));
+          high =
+              omega
+              (arith, from-luma-most (samplingDown (p .settings .format) c) (ok .picture .height .most));
         }
 
-    rooms : (l : Planes) → PlanesOk p l → Rooms s luma l
-    rooms l long = record { y = plane-room Y (l .y) (long Y); cb = plane-room Cb (l .cb) (long Cb); cr = plane-room Cr (l .cr) (long Cr) }
+    rooms : (l : Planes) → PlanesOk p l → Rooms (codeOf p) luma l
+    rooms l long = record {
+      y = plane-room Y (l .y) (long Y);
+      cb = plane-room Cb (l .cb) (long Cb);
+      cr = plane-room Cr (l .cr) (long Cr);
+    }
 
-    sized : (l : Planes) → PlanesOk (cut p i j) l → Sized s luma l
+    sized : (l : Planes) → PlanesOk (cutAt p at) l → Sized (codeOf p) luma l
     unfolding cut
     sized l long = record { y = long Y; cb = long Cb; cr = long Cr }
 
-    cells-room : Room (bytesPart luma) (8 * cellOf (s .width)) cells
+    cells-room : Room (bytesPart luma) (8 * cellOf (p .width)) (p .cells)
     cells-room =
-        let inside = cells-inside ok tile in
+        let inside = cells-inside (ok .picture) tile in
         record {
-          rows = cellOf (s .height);
-          long = cells-rows ok tile;
+          rows = cellOf (p .height);
+          long = cells-rows (ok .picture) tile;
           columns = inside .columns;
           down = inside .rows;
-          wide = omega (arith, ok .width .most);
-          high = omega (arith, ok .height .most);
+          wide = omega (arith, ok .picture .width .most);
+          high = omega (arith, ok .picture .height .most);
         }
 
-    cut-ready : (l : Scratch) → ScratchOk (cut p i j) l → CutReady s luma originals cells (l .originals) (l .cells)
+    cut-ready : (l : Scratch) → ScratchOk (cutAt p at) l
+        → CutReady (codeOf p) luma (p .originals) (p .cells) (l .originals) (l .cells)
     unfolding cut
     cut-ready l fit = record {
-      first = luma-small .0;
-      wide = luma-small .1;
-      whole = ok .width .most;
-      planes-in = rooms originals (ok .originals);
+      planes-in = rooms (p .originals) (ok .picture .originals);
       cells-in = cells-room;
       planes-own = sized (l .originals) (fit .originals);
       cells-own = omega (arith, fit .cells);
     }
 
-    -- by a part that is the tile's
-    module _ (part : Part) (e : part ≡ luma) where
+    ready : (l : Scratch) → ScratchOk (cutAt p at) l
+        → CompareReady (codeOf p) luma (p .originals) (p .cells) lent l
+    ready l fit = record {
+      wide = luma-small .0;
+      high = luma-small .1;
+      ready = cut-ready l fit;
+      outputs-in = rooms lent (ok .outputs-long);
+      outputs-own = sized (l .own) (fit .own);
+    }
+
+    -- ---- by the part and the cut's settings that the code worked out
+
+    module _ {part : Part} (e : part ≡ luma) where
       pub part-small : (part .width ≤ 8192) × (part .height ≤ 8192)
-      part-small = subst (λ (q : Part). (q .width ≤ 8192) × (q .height ≤ 8192)) (sym e) (luma-small .1, luma-small .2)
+      part-small = rw e luma-small
 
-      pub compare-ready : (own : Code.Settings) → own ≡ alone s part → (l : Scratch) (b : Bool) → b ≡ anyOf (badScratch (given own (planes [] [] []) [] [] [] []) l) → b ≡ false
-          → CutReady s part originals cells (l .originals) (l .cells) × ((part .height ≤ 8192) × (Rooms s part lent × Sized s part (l .own)))
-      compare-ready own eo l b told good =
-          let fit : ScratchOk (cut p i j) l = scratch-out (cut p i j) l (sym (told ∙ scratch-as part e own eo l) ∙ good) in
-          subst (λ (q : Part). CutReady s q originals cells (l .originals) (l .cells) × ((q .height ≤ 8192) × (Rooms s q lent × Sized s q (l .own)))) (sym e)
-          (cut-ready l fit, (luma-small .2, (rooms lent (ok .outputs-long), sized (l .own) (fit .own))))
+      module _ {own : Code.Settings} (eo : own ≡ alone (codeOf p) part) where
+        pub own-small : (own .width ≤ 8192) × (own .height ≤ 8192)
+        own-small = rw eo part-small
 
-  -- ---- the answers, and what the lists hold after them
+        module _ (l : Scratch) {bad : Bool} (tested : bad ≡ anyOf (badScratch (bare own) l)) where
+          bad-is : bad ≡ anyOf (badScratch (cutAt p at) l)
+          unfolding cut
+          bad-is =
+              tested
+              ∙ ap (λ (o : Code.Settings). anyOf (badScratch (bare o) l)) (eo ∙ ap (alone (codeOf p)) e)
 
-  no-tile : (l : Scratch) (out : Planes) → anyOf (noTileAt p i j) ≡ true → (noTile ≡ compared p i j l out) × (l ≡ written p i j l)
-  unfolding compared written
-  no-tile l out e = (rw e, rw e)
+          pub compare-ready : bad ≡ false → CompareReady (codeOf p) part (p .originals) (p .cells) lent l
+          compare-ready good = rw e (ready l (scratch-out (cutAt p at) l (sym bad-is ∙ good)))
 
-  pub no-column : (l : Scratch) (out : Planes) → length columns ≤ i → (noTile ≡ compared p i j l out) × (l ≡ written p i j l)
-  no-column l out h = no-tile l out (rw (le-leb (length columns) i h))
+          pub bad-lengths : bad ≡ true → (out : Planes) → Answered lengths l l out
+          unfolding compared written
+          bad-lengths short out = let long = sym bad-is ∙ short in (rw (some, long), rw (some, long))
 
-  pub no-row : (l : Scratch) (out : Planes) → i < length columns → length rows ≤ j → (noTile ≡ compared p i j l out) × (l ≡ written p i j l)
-  no-row l out g h = no-tile l out (rw (lt-leb (length columns) i g, le-leb (length rows) j h))
+          count-part : (out : Planes)
+              → differingAlone (codeOf p) part (p .originals) (p .cells) (p .slices) (l .own) out
+              ≡ differences p (at .column) (at .row) (outputs (cutAt p at) (l .own)) out
+          unfolding cut differences
+          count-part out =
+              ap
+              (λ (q : Part). differingAlone (codeOf p) q (p .originals) (p .cells) (p .slices) (l .own) out) e
 
-  is-tile : IsTile p i j → anyOf (noTileAt p i j) ≡ false
-  is-tile tile = rw (lt-leb (length columns) i (tile .column), lt-leb (length rows) j (tile .row))
+          filtered-part : filteredAlone (codeOf p) part (p .originals) (p .cells) (p .slices) (l .own)
+              ≡ scratch (cutAt p at .originals) (cutAt p at .cells) (outputs (cutAt p at) (l .own))
+          unfolding cut
+          filtered-part =
+              ap (λ (q : Part). filteredAlone (codeOf p) q (p .originals) (p .cells) (p .slices) (l .own)) e
 
-  count-part : (part : Part) → part ≡ luma → (own out : Planes)
-      → differingPlanes s part (outputs (oneTile (alone s part) (partPlanes s part originals) (partCells s part cells) slices) own) out
-      ≡ differences p i j (outputs (cut p i j) own) out
-  unfolding cut differences
-  count-part part e own out = ap (λ (q : Part). differingPlanes s q (outputs (oneTile (alone s q) (partPlanes s q originals) (partCells s q cells) slices) own) out) e
-
-  filtered-part : (part : Part) → part ≡ luma → (own : Planes) → filteredPart s part originals cells slices own ≡ scratch (cut p i j .originals) (cut p i j .cells) (outputs (cut p i j) own)
-  unfolding cut
-  filtered-part part e own = ap (λ (q : Part). filteredPart s q originals cells slices own) e
-
-  module _ (tile : IsTile p i j) (part : Part) (e : part ≡ luma) (own : Code.Settings) (eo : own ≡ alone s part) (l : Scratch) (out : Planes) (b : Bool)
-      (told : b ≡ anyOf (badScratch (given own (planes [] [] []) [] [] [] []) l)) where
-    pub bad-lengths : b ≡ true → (lengths ≡ compared p i j l out) × (l ≡ written p i j l)
-    unfolding compared written
-    bad-lengths bad =
-        let long = sym (told ∙ scratch-as part e own eo l) ∙ bad in
-        (rw (is-tile tile, long), rw (is-tile tile, long))
-
-    pub count-is : b ≡ false → (r : ℕ)
-        → r ≡ differingPlanes s part (outputs (oneTile (alone s part) (partPlanes s part originals) (partCells s part cells) slices) (l .own)) out
-        → (left : Scratch) → left ≡ filteredPart s part originals cells slices (l .own)
-        → (differing r ≡ compared p i j l out) × (left ≡ written p i j l)
-    unfolding compared written
-    count-is good r er left el =
-        let long = sym (told ∙ scratch-as part e own eo l) ∙ good in
-        let same : r ≡ differences p i j (outputs (cut p i j) (l .own)) out = er ∙ count-part part e (l .own) out in
-        (rw (is-tile tile, long) (ap differing same), rw (is-tile tile, long) (el ∙ filtered-part part e (l .own)))
-
--- ---- the whole
-
-module _ (p : Picture) (lent : Planes) (i j : ℕ) (l : Scratch) where
-  is-refused : (v : Answer.Verdict) → numbered v ≡ verdict p lent → 0 < numbered v .number → eqb (verdict p lent .number) 0 ≡ false
-  is-refused v e h =
-      let some : verdict p lent .number ≡ 0 → ⊥ = λ z. let n : numbered v .number ≡ 0 = ap (λ v. v .number) e ∙ z in omega arith in
-      ne-eqb (verdict p lent .number) 0 some
-
-  pub refusal-is : (v : Answer.Verdict) → numbered v ≡ verdict p lent → 0 < numbered v .number → refused (numbered v) ≡ outcome p lent i j l
-  unfolding outcome
-  refusal-is v e h = rw (is-refused v e h) (ap refused e)
-
-  pub refusal-leaves : (v : Answer.Verdict) → numbered v ≡ verdict p lent → 0 < numbered v .number → l ≡ after p lent i j l
-  unfolding after
-  refusal-leaves v e h = rw (is-refused v e h)
-
-  pub no-refusal : (v : Answer.Verdict) → numbered v ≡ verdict p lent → 0 < numbered v .number → Checkable p lent i j l → ⊥
-  no-refusal v e h ok = let n : numbered v .number ≡ 0 = ap (λ v. v .number) (e ∙ ok .tile .accepted) in omega arith
-
-  pub outcome-is : verdict p lent ≡ acceptance → (o : Outcome) (out : Planes) → out ≡ outputs p lent → o ≡ compared p i j l out → o ≡ outcome p lent i j l
-  unfolding outcome
-  outcome-is ok o out eo e = e ∙ ap (compared p i j l) eo ∙ ap (λ (t : Bool). cond t (compared p i j l (outputs p lent)) (refused (verdict p lent))) (sym (eq-eqb _ _ (ap (λ v. v .number) ok)))
-
-  pub after-is : verdict p lent ≡ acceptance → (left : Scratch) → left ≡ written p i j l → left ≡ after p lent i j l
-  unfolding after
-  after-is ok left e = rw (eq-eqb _ _ (ap (λ v. v .number) ok)) e
-
-  -- term 3: the count is 0
-  pub none-differs : Checkable p lent i j l → outcome p lent i j l ≡ differing 0
-  unfolding outcome compared
-  none-differs ok =
-      let apart = term3 .apart p lent i j (ok .tile) (l .own) (ok .scratch .own) in
-      let tile = ok .tile .tile in
-      rw (ok .tile .accepted, lt-leb (length (p .columns)) i (tile .column), lt-leb (length (p .rows)) j (tile .row), scratch-in (cut p i j) l (ok .scratch))
-      (ap differing (apart .none-differs))
-
-pub accepted-again : (p : Picture) (lent out : Planes) → length (out .y) ≡ length (lent .y) → length (out .cb) ≡ length (lent .cb) → length (out .cr) ≡ length (lent .cr)
-    → Accepted p lent → Accepted p out
-accepted-again p lent out ey eb er ok = record {
-  width = ok .width;
-  height = ok .height;
-  settings = ok .settings;
-  originals = ok .originals;
-  outputs-long = elim [ Y ↦ ey ∙ ok .outputs-long Y | Cb ↦ eb ∙ ok .outputs-long Cb | Cr ↦ er ∙ ok .outputs-long Cr ];
-  cells-long = ok .cells-long;
-  slices = ok .slices;
-  columns = ok .columns;
-  rows = ok .rows;
-  cells = ok .cells;
-  samples = ok .samples;
-}
+          pub count-is : bad ≡ false → (out : Planes) {r : ℕ}
+              → r ≡ differingAlone (codeOf p) part (p .originals) (p .cells) (p .slices) (l .own) out
+              → {left : Scratch}
+              → left ≡ filteredAlone (codeOf p) part (p .originals) (p .cells) (p .slices) (l .own)
+              → Answered (differing r) l left out
+          unfolding compared written
+          count-is good out er el =
+              let long = sym bad-is ∙ good in
+              (rw (some, long) (ap differing (er ∙ count-part out)), rw (some, long) (el ∙ filtered-part))

@@ -1,6 +1,3 @@
-pub mod Cropped
-pub mod Counted
-pub mod Tiles
-pub mod Sizes
-pub mod Same
+pub mod Filtered
 pub mod Compared
+pub mod Outcomes
