@@ -1,6 +1,5 @@
 // Stored pictures: records from standard input, lines to standard output. oracle/README.md has the layout of both.
-mod head;
-mod lists;
+mod pictures;
 mod turn;
 
 pub use turn::run_stage;

@@ -1,14 +1,21 @@
-// How long the lists are that are lent for a tile's cut.
-use crate::CELL_BYTES;
-use crate::SAMPLES;
+// How long the lists are that are lent for a tile's cut, and the outputs that are lent with the picture.
+use crate::LentSamples;
+use picture::CellColumn;
 use picture::LumaColumn;
-use stage::chroma_rows;
-use tile_check::CutSize;
-ghost use Prim.Native.Nat.{_<_, _≤_};
+use picture::cell_bytes;
+use picture::chroma_rows;
+use picture::row_of_cells;
+use picture_record::CELL_BYTES;
+use picture_record::SAMPLES;
+use tile_parts::CutSize;
+ghost use mathlib.Core.Path.{_≡_};
+ghost use Prim.Native.Nat.{_*_, _≤_, _<_, min, max};
+ghost use Rattle.tile_run.specs.CutLists.{planeSamples, cellBytes, chromaSize, oneOff, lengthOf};
+ghost use Rattle.tile_run.specs.CutLists.{lentPlanes, lentCells, capped};
 
 // The product, and never more than `most`.
 fn area(width: usize, height: usize, most: usize) -> usize
-    ensures { λ r. ⌜ r ≤ most ⌝ }
+    ensures { λ r. ⌜ r ≡ min (width * height) most ⌝ }
 {
     if width == 0 {
         return 0;
@@ -19,29 +26,8 @@ fn area(width: usize, height: usize, most: usize) -> usize
     width * height
 }
 
-// Of a plane of this size.
-pub(crate) fn plane_samples(size: CutSize) -> usize
-    ensures { λ r. ⌜ r ≤ 40000 ⌝ }
-{
-    area(size.width, size.height, SAMPLES)
-}
-
-// The size in a chroma plane.
-pub(crate) fn chroma_size(format: u32, size: CutSize) -> CutSize {
-    CutSize {
-        width: LumaColumn(size.width).chroma(format).0,
-        height: chroma_rows(format, size.height),
-    }
-}
-
-pub(crate) fn cell_bytes(size: CutSize) -> usize
-    ensures { λ r. ⌜ r ≤ 20000 ⌝ }
-{
-    8 * area(size.width / 4, size.height / 4, CELL_BYTES / 8)
-}
-
-pub(crate) fn at_most(n: usize, most: usize) -> usize
-    ensures { λ r. ⌜ r ≤ most ⌝ }
+fn at_most(n: usize, most: usize) -> usize
+    ensures { λ r. ⌜ r ≡ min n most ⌝ }
 {
     if most < n {
         return most;
@@ -49,21 +35,91 @@ pub(crate) fn at_most(n: usize, most: usize) -> usize
     n
 }
 
-// The length of a list of 1 to 7, which is the exact one, but for the list `wrong`: one too short at its own number, one too long at seven more.
-pub(crate) fn length_of(list: usize, exact: usize, wrong: usize, most: usize) -> usize
-    requires { ⌜ (list ≤ 7) × ((exact ≤ most) × (0 < most)) ⌝ }
-    ensures { λ r. ⌜ r ≤ most ⌝ }
+// The samples of a plane of this size.
+fn plane_samples(size: CutSize) -> usize
+    ensures { λ r. ⌜ r ≡ planeSamples size ⌝ }
 {
-    if wrong == list + 7 {
-        if exact < most {
-            return exact + 1;
-        }
+    area(size.width, size.height, SAMPLES)
+}
+
+// The bytes of its cells.
+fn cut_cell_bytes(size: CutSize) -> usize
+    ensures { λ r. ⌜ r ≡ cellBytes size ⌝ }
+{
+    let columns = LumaColumn(size.width).cell();
+    let rows = row_of_cells(size.height);
+    let cells = area(columns.0, rows, CELL_BYTES);
+    at_most(cell_bytes(CellColumn(cells), 1), CELL_BYTES)
+}
+
+// The size in a chroma plane.
+pub(crate) fn chroma_size(format: u32, size: CutSize) -> CutSize
+    ensures { λ r. ⌜ r ≡ chromaSize format size ⌝ }
+{
+    CutSize {
+        width: LumaColumn(size.width).chroma(format).0,
+        height: chroma_rows(format, size.height),
     }
-    if wrong != list {
-        return exact;
-    }
+}
+
+// One less, or one more where there is none to lose.
+fn one_off(exact: usize) -> usize
+    ensures { λ r. ⌜ r ≡ oneOff exact ⌝ }
+    ensures { λ r. ⌜ r ≤ max exact 1 ⌝ }
+{
     if exact == 0 {
         return 1;
     }
     exact - 1
+}
+
+// The length of a list of 1 to 7, which is the exact one, but for the list `wrong`: one too short at its own number,
+// one too long at seven more.
+fn length_of(list: usize, exact: usize, wrong: usize, most: usize) -> usize
+    requires { ⌜ (list ≤ 7) × ((exact ≤ most) × ((0 < most) × (most ≤ 40000))) ⌝ }
+    ensures { λ r. ⌜ r ≡ lengthOf list exact wrong most ⌝ }
+    ensures { λ r. ⌜ r ≤ most ⌝ }
+{
+    if wrong == list {
+        return one_off(exact);
+    }
+    if wrong == list + 7 {
+        return at_most(exact + 1, most);
+    }
+    exact
+}
+
+// The three planes' lists of a cut of this size; `first` is the first one's number.
+pub(crate) fn lent_planes(first: usize, format: u32, size: CutSize, wrong: usize) -> LentSamples
+    requires { ⌜ first ≤ 5 ⌝ }
+    ensures { λ r. ⌜ r ≡ lentPlanes first format size wrong ⌝ }
+    ensures { λ r. ⌜ (r .y ≤ 40000) × ((r .cb ≤ 40000) × (r .cr ≤ 40000)) ⌝ }
+{
+    let luma = plane_samples(size);
+    let chroma = plane_samples(chroma_size(format, size));
+    LentSamples {
+        y: length_of(first, luma, wrong, SAMPLES),
+        cb: length_of(first + 1, chroma, wrong, SAMPLES),
+        cr: length_of(first + 2, chroma, wrong, SAMPLES),
+    }
+}
+
+// Its cells' list.
+pub(crate) fn lent_cells(size: CutSize, wrong: usize) -> usize
+    ensures { λ r. ⌜ r ≡ lentCells size wrong ⌝ }
+    ensures { λ r. ⌜ r ≤ 20000 ⌝ }
+{
+    length_of(4, cut_cell_bytes(size), wrong, CELL_BYTES)
+}
+
+// The picture's outputs, and never more than the program holds.
+pub(crate) fn lent_outputs(lent: LentSamples) -> LentSamples
+    ensures { λ r. ⌜ r ≡ capped lent ⌝ }
+    ensures { λ r. ⌜ (r .y ≤ 40000) × ((r .cb ≤ 40000) × (r .cr ≤ 40000)) ⌝ }
+{
+    LentSamples {
+        y: at_most(lent.y, SAMPLES),
+        cb: at_most(lent.cb, SAMPLES),
+        cr: at_most(lent.cr, SAMPLES),
+    }
 }

@@ -1,151 +1,47 @@
-// Term 3 tried on a picture: each tile, one past the last of each row and below the last row, and each list of a cut one off its length.
-use crate::OutputLengths;
+// Term 3 tried on a picture: each tile, one past the last of each row and below the last row, and each list of a cut
+// one off its length.
+use crate::LentSamples;
 use crate::one_tile::one_tile;
 use picture::Settings;
+use picture_text::Trial;
+use tile_parts::TileAt;
+ghost use mathlib.Core.Path.{_≡_};
+ghost use Prim.Native.Nat.{_<_};
+ghost use Rattle.tile_run.specs.Trials.{trial, nextTrial};
 
-// The tiles of tile row j, and the place one past them.
-fn tile_row(
-    number: u64,
-    settings: Settings,
-    lengths: OutputLengths,
-    y: &[u16],
-    cb: &[u16],
-    cr: &[u16],
-    cells: &[u8],
-    slices: &[u8],
-    columns: &[u16],
-    rows: &[u16],
-    j: usize,
-) -> bool {
-    let mut i = 0;
-    while i < columns.len() {
-        if !one_tile(
-            number,
-            settings,
-            lengths,
-            y,
-            cb,
-            cr,
-            cells,
-            slices,
-            columns,
-            rows,
-            i,
-            j,
-            0,
-        ) {
-            return false;
-        }
-        i += 1;
-    }
-    one_tile(
+fn trial(number: u64, column: usize, row: usize, wrong: usize) -> Trial
+    ensures { λ r. ⌜ r ≡ trial number column row wrong ⌝ }
+{
+    Trial {
         number,
-        settings,
-        lengths,
-        y,
-        cb,
-        cr,
-        cells,
-        slices,
-        columns,
-        rows,
-        i,
-        j,
-        0,
-    )
+        at: TileAt { column, row },
+        wrong,
+    }
 }
 
-// All tile rows, and the place below the first column of tiles.
-fn tile_rows(
-    number: u64,
-    settings: Settings,
-    lengths: OutputLengths,
-    y: &[u16],
-    cb: &[u16],
-    cr: &[u16],
-    cells: &[u8],
-    slices: &[u8],
-    columns: &[u16],
-    rows: &[u16],
-) -> bool {
-    let mut j = 0;
-    while j < rows.len() {
-        if !tile_row(
-            number,
-            settings,
-            lengths,
-            y,
-            cb,
-            cr,
-            cells,
-            slices,
-            columns,
-            rows,
-            j,
-        ) {
-            return false;
-        }
-        j += 1;
+// The trial after this one, in a picture of so many tile columns and rows.
+fn next_trial(columns: usize, rows: usize, now: Trial) -> Trial
+    requires { ⌜ now .wrong < 15 ⌝ }
+    ensures { λ r. ⌜ r ≡ nextTrial columns rows now ⌝ }
+{
+    let at = now.at;
+    if 0 < now.wrong {
+        return trial(now.number, 0, 0, now.wrong + 1);
     }
-    one_tile(
-        number,
-        settings,
-        lengths,
-        y,
-        cb,
-        cr,
-        cells,
-        slices,
-        columns,
-        rows,
-        0,
-        j,
-        0,
-    )
-}
-
-// The first tile, with each list of its cut in turn one too short, then one too long.
-fn wrong_lists(
-    number: u64,
-    settings: Settings,
-    lengths: OutputLengths,
-    y: &[u16],
-    cb: &[u16],
-    cr: &[u16],
-    cells: &[u8],
-    slices: &[u8],
-    columns: &[u16],
-    rows: &[u16],
-) -> bool {
-    let mut wrong = 1;
-    while wrong < 15 {
-        if !one_tile(
-            number,
-            settings,
-            lengths,
-            y,
-            cb,
-            cr,
-            cells,
-            slices,
-            columns,
-            rows,
-            0,
-            0,
-            wrong,
-        ) {
-            return false;
-        }
-        wrong += 1;
+    if rows <= at.row {
+        return trial(now.number, 0, 0, 1);
     }
-    true
+    if at.column < columns {
+        return trial(now.number, at.column + 1, at.row, 0);
+    }
+    trial(now.number, 0, at.row + 1, 0)
 }
 
 // Answers whether all was written.
 pub fn tile_lines(
     number: u64,
     settings: Settings,
-    lengths: OutputLengths,
+    outputs: LentSamples,
     y: &[u16],
     cb: &[u16],
     cr: &[u16],
@@ -154,30 +50,23 @@ pub fn tile_lines(
     columns: &[u16],
     rows: &[u16],
 ) -> bool {
-    if !tile_rows(
-        number,
-        settings,
-        lengths,
-        y,
-        cb,
-        cr,
-        cells,
-        slices,
-        columns,
-        rows,
-    ) {
-        return false;
+    let mut now = trial(number, 0, 0, 0);
+    while now.wrong < 15 {
+        if !one_tile(
+            now,
+            settings,
+            outputs,
+            y,
+            cb,
+            cr,
+            cells,
+            slices,
+            columns,
+            rows,
+        ) {
+            return false;
+        }
+        now = next_trial(columns.len(), rows.len(), now);
     }
-    wrong_lists(
-        number,
-        settings,
-        lengths,
-        y,
-        cb,
-        cr,
-        cells,
-        slices,
-        columns,
-        rows,
-    )
+    true
 }

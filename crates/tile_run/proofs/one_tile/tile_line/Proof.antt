@@ -1,71 +1,55 @@
--- `tile_line` is safe: each list comes back with its length.
+-- `tile_line` is safe: each list is lent at most at its length.
 -- Assumes nothing.
 use native.Mathlib.Omega.{arith}
+use lib.ListN.{length-take}
 use borrow.Author.Needs.{needs}
 use Rattle.tile_run.proofs.one_tile.tile_line.Statement.{statement}
 use Rattle.tile_run.proofs.one_tile.tile_line.Tie as tie
 
-check-tile-requires : tie.Need-check-tile-requires
-check-tile-requires c κs = search needs
+-- from the printed line back to the check, over the lists that it gave back
+abbrev sized : tie.After-put-tile → tie.After-chroma-size
+sized c = let lists = c .before .before in lists .before .before
 
-cut-size-requires : tie.Need-cut-size-requires
-cut-size-requires c κs = search needs
+abbrev own-lists : tie.After-slice-known12 → tie.After-cutcells2
+own-lists c =
+    let cb = c .before .before in
+    let y = cb .before .before in
+    y .before .before
 
-chroma-size-requires : tie.Need-chroma-size-requires
-chroma-size-requires c κs = search needs
+abbrev cut-lists : tie.After-cutcells2 → tie.After-cuty2
+cut-lists c = c .before .before .before
 
-put-tile-requires : tie.Need-put-tile-requires
-put-tile-requires c κs = search needs
+abbrev outputs : tie.After-slice-known9 → tie.After-check-tile
+outputs c =
+    let cb = c .before .before in
+    let y = cb .before .before in
+    y .before .before
 
-same-length : tie.Need-same-length
-same-length c = omega (arith, c .before .before .before .before .before .before .before .before .before .before .before .before .before .before .before .before .before .before .before .before .before .before .before .before .before .outy .given)
-
-same-length-2 : tie.Need-same-length-2
-same-length-2 c = omega (arith, c .before .before .before .before .before .before .before .before .before .before .before .before .before .before .before .before .before .before .before .before .before .before .before .outcb .given)
-
-same-length-3 : tie.Need-same-length-3
-same-length-3 c = omega (arith, c .before .before .before .before .before .before .before .before .before .before .before .before .before .before .before .before .before .before .before .before .before .outcr .given)
-
-same-length-4 : tie.Need-same-length-4
-same-length-4 c = omega (arith, c .before .before .before .before .before .before .before .before .before .before .before .before .before .before .before .before .before .before .before .cuty .given)
-
-same-length-5 : tie.Need-same-length-5
-same-length-5 c = omega (arith, c .before .before .before .before .before .before .before .before .before .before .before .before .before .before .before .before .before .cutcb .given)
-
-same-length-6 : tie.Need-same-length-6
-same-length-6 c = omega (arith, c .before .before .before .before .before .before .before .before .before .before .before .before .before .before .before .cutcr .given)
-
-same-length-7 : tie.Need-same-length-7
-same-length-7 c = omega (arith, c .before .before .before .before .before .before .before .before .before .before .before .before .before .cutcells .given)
-
-same-length-8 : tie.Need-same-length-8
-same-length-8 c = search needs
-
-same-length-9 : tie.Need-same-length-9
-same-length-9 c = search needs
-
-same-length-10 : tie.Need-same-length-10
-same-length-10 c = search needs
-
-returns : tie.Need-returns
-returns c = search needs
+abbrev checked : tie.After-put-tile → tie.After-check-tile
+checked c = outputs (cut-lists (own-lists (sized c .before)) .before)
 
 pub tile-line-spec : {M : Type 1} → statement M
 tile-line-spec =
     tie.close
     (tie.spec
-    check-tile-requires
-    cut-size-requires
-    chroma-size-requires
-    put-tile-requires
-    same-length
-    same-length-2
-    same-length-3
-    same-length-4
-    same-length-5
-    same-length-6
-    same-length-7
-    same-length-8
-    same-length-9
-    same-length-10
-    returns)
+    (λ c κs. search needs)
+    (λ c κs. search needs)
+    (λ c κs. search needs)
+    (λ c. search needs)
+    (λ c. simp length-take (omega arith))
+    (λ c. search needs)
+    (λ c. simp length-take (omega arith))
+    (λ c. search needs)
+    (λ c. simp length-take (omega arith))
+    (λ c. search needs)
+    (λ c. simp length-take (omega arith))
+    (λ c κs. tt)
+    (λ c κs. tt)
+    (λ c κs. tt)
+    (λ c. omega (arith, checked c .check-tile .kept))
+    (λ c. omega (arith, checked c .check-tile .kept))
+    (λ c. omega (arith, checked c .check-tile .kept))
+    (λ c. omega (arith, checked c .check-tile .kept))
+    (λ c. omega (arith, checked c .check-tile .kept))
+    (λ c. omega (arith, checked c .check-tile .kept))
+    (λ c. tt))

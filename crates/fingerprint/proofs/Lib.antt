@@ -1,0 +1,2 @@
+mod Prime
+mod Rows

@@ -1,0 +1,30 @@
+-- `with_sample` meets its contract: a sample inside goes into the product, and a place outside into nothing.
+-- Assumes nothing.
+use mathlib.Core.Path.{_≡_, refl}
+use borrow.Author.Needs.{needs}
+use Rattle.fingerprint.specs.Fnv.{step, withSample}
+use Rattle.fingerprint.proofs.with_sample.Statement.{statement}
+use Rattle.fingerprint.proofs.with_sample.Tie as tie
+
+-- back to the arm of a sample inside
+abbrev inside : tie.After-times-prime → tie.After-read
+inside c = c .before .before .before
+
+returns : tie.Need-returns
+unfolding step withSample
+returns c = rw (c .times-prime .ensures, c .before .mixed .ensures, inside c .read .given .1) refl
+
+returns-2 : tie.Need-returns-2
+unfolding withSample
+returns-2 c = search needs
+
+pub with-sample-spec : {M : Type 1} → statement M
+with-sample-spec =
+    tie.close
+    (tie.spec
+    (λ c. search needs)
+    (λ c κs. search needs)
+    (λ c κs. search needs)
+    (λ c. search needs)
+    returns
+    returns-2)

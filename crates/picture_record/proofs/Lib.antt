@@ -1,0 +1,2 @@
+mod Joined
+mod Limits

@@ -1,0 +1,122 @@
+// What is done with one picture that was read. Each function answers whether all was written.
+use crate::Task;
+use picture_record::SAMPLES;
+use picture_record::length_at;
+use picture_record::settings;
+use picture_text::put_line;
+use stage::apply_deblocking;
+use tile_run::JUNK;
+use tile_run::LentSamples;
+use tile_run::tile_lines;
+ghost use mathlib.Core.Path.{_≡_};
+ghost use Prim.Native.Nat.{_≤_};
+ghost use Rattle.picture.specs.Lent.{given};
+ghost use Rattle.picture_run.specs.Outputs.{lentOutputs};
+
+// Runs the stage and writes the line.
+fn stage_line(
+    number: u64,
+    head: &[u8; 80],
+    y: &[u16],
+    cb: &[u16],
+    cr: &[u16],
+    cells: &[u8],
+    slices: &[u8],
+    columns: &[u16],
+    rows: &[u16],
+    outy: &mut [u16],
+    outcb: &mut [u16],
+    outcr: &mut [u16],
+) -> bool {
+    let verdict = apply_deblocking(
+        settings(head),
+        y,
+        cb,
+        cr,
+        cells,
+        slices,
+        columns,
+        rows,
+        &mut outy[..],
+        &mut outcb[..],
+        &mut outcr[..],
+    );
+    put_line(number, verdict, outy, outcb, outcr)
+}
+
+// How long the output planes are.
+fn lent_outputs(head: &[u8; 80]) -> LentSamples
+    ensures { λ r. ⌜ r ≡ lentOutputs (given head) ⌝ }
+    ensures { λ r. ⌜ (r .y ≤ 40000) × ((r .cb ≤ 40000) × (r .cr ≤ 40000)) ⌝ }
+{
+    LentSamples {
+        y: length_at(head, 3),
+        cb: length_at(head, 4),
+        cr: length_at(head, 5),
+    }
+}
+
+// The outputs hold junk before the stage.
+fn with_outputs(
+    number: u64,
+    head: &[u8; 80],
+    y: &[u16],
+    cb: &[u16],
+    cr: &[u16],
+    cells: &[u8],
+    slices: &[u8],
+    columns: &[u16],
+    rows: &[u16],
+) -> bool {
+    let lent = lent_outputs(head);
+    let a = lent.y;
+    let b = lent.cb;
+    let c = lent.cr;
+    let mut outy = [JUNK; SAMPLES];
+    let mut outcb = [JUNK; SAMPLES];
+    let mut outcr = [JUNK; SAMPLES];
+    stage_line(
+        number,
+        head,
+        y,
+        cb,
+        cr,
+        cells,
+        slices,
+        columns,
+        rows,
+        &mut outy[..a],
+        &mut outcb[..b],
+        &mut outcr[..c],
+    )
+}
+
+// What the task asks for, of one picture.
+pub(crate) fn answer(
+    task: Task,
+    number: u64,
+    head: &[u8; 80],
+    y: &[u16],
+    cb: &[u16],
+    cr: &[u16],
+    cells: &[u8],
+    slices: &[u8],
+    columns: &[u16],
+    rows: &[u16],
+) -> bool {
+    match task {
+        Task::Stage => with_outputs(number, head, y, cb, cr, cells, slices, columns, rows),
+        Task::Tiles => tile_lines(
+            number,
+            settings(head),
+            lent_outputs(head),
+            y,
+            cb,
+            cr,
+            cells,
+            slices,
+            columns,
+            rows,
+        ),
+    }
+}

@@ -1,0 +1,43 @@
+// The words of a line.
+use libc::STDOUT_FILENO;
+ghost use mathlib.Core.Bool.{false};
+ghost use mathlib.Core.Path.{_≡_};
+
+// The fingerprints of a picture's three planes.
+pub(crate) struct Fingerprints {
+    pub y: u64,
+    pub cb: u64,
+    pub cr: u64,
+}
+
+pub(crate) fn put_number(n: u64) -> bool {
+    if !io::print_decimal(STDOUT_FILENO, n) {
+        return false;
+    }
+    io::write_all(STDOUT_FILENO, b" ")
+}
+
+fn put_fingerprint(number: u64, end: &[u8]) -> bool {
+    if !io::print_hex(STDOUT_FILENO, number, 16) {
+        return false;
+    }
+    io::write_all(STDOUT_FILENO, end)
+}
+
+pub(crate) fn put_fingerprints(planes: Fingerprints) -> bool {
+    if !put_fingerprint(planes.y, b" ") {
+        return false;
+    }
+    if !put_fingerprint(planes.cb, b" ") {
+        return false;
+    }
+    put_fingerprint(planes.cr, b"\n")
+}
+
+// A word in place of a line. The answer is not to go on.
+pub fn stop(word: &[u8]) -> bool
+    ensures { λ r. ⌜ r ≡ false ⌝ }
+{
+    io::write_all(STDOUT_FILENO, word);
+    false
+}

@@ -1,0 +1,2 @@
+mod Areas
+mod Trials

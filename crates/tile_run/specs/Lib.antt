@@ -1,0 +1,2 @@
+pub mod CutLists
+pub mod Trials
