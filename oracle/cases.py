@@ -18,7 +18,6 @@ is 5, so that the limits are:
     a weak line    |delta| below 50
 """
 
-import subprocess
 import sys
 
 sys.dont_write_bytecode = True
@@ -26,9 +25,8 @@ sys.dont_write_bytecode = True
 import bench_model
 from bench_model import BETA_TABLE, TC_TABLE
 from records import RECORD, Random, answers, random_record, record, tally
-from stored import ROOT, is_checking, store
+from stored import is_checking, run_oracle, store
 
-ORACLE = ROOT / "target" / "oracle" / "bench"
 NAMES = ["p3", "p2", "p1", "p0", "q0", "q1", "q2", "q3"]
 
 
@@ -117,7 +115,8 @@ def figures():
 
 def average():
     """Both offsets are 6 here: then 4 is the lowest average that has a tc, by row 18 of TC, and a beta,
-    by row 16 of BETA. No negative average has a tc, so it shows only in that the record is a skip."""
+    by row 16 of BETA. In luma, which is all that the bench has, no negative average has a tc, so it shows
+    only in that the record is a skip. In chroma one can: `averages` in chroma_pictures.py."""
     most = dict(beta=6, tc=6)
     for depth, qp_p, qp_q in [(10, -1, -2), (10, -2, -2), (10, -1, -1), (10, -3, -4), (10, -12, -12), (10, 0, -1),
                               (16, -48, -48), (16, -48, -47)]:
@@ -355,7 +354,7 @@ GROUPS = [figures, average, tables, strengths, depths, lowest_qps, largest_sampl
 def run(cases):
     """The input, the oracle's output, and the output split into answers."""
     data = b"".join(case.data for case in cases)
-    output = subprocess.run([ORACLE], input=data, stdout=subprocess.PIPE, check=True).stdout
+    output, _ = run_oracle("bench", data)
     found = answers(output.decode())
     assert found == [bench_model.answer(data[start:start + RECORD]) for start in range(0, len(data), RECORD)]
     assert len(found) == len(cases)

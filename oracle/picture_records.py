@@ -1,25 +1,23 @@
 #!/usr/bin/env python3
 """Pictures for the stage, as records, and the text that is expected of them.
 
-    picture_records.py random COUNT SEED      writes COUNT random records to standard output
-    picture_records.py expect                 reads records, writes the expected text
-    picture_records.py compare EXPECTED ACTUAL  tallies the lines; status 1 at a difference
+    picture_records.py random COUNT SEED              writes COUNT random records to standard output
+    picture_records.py expect                         reads records, writes the expected text
+    picture_records.py compare INPUT EXPECTED ACTUAL  tallies the lines; status 1 at a difference
 
 Numbers and places are those of ledger.py; the planes of accepted pictures are the oracle's (run build.sh first).
 """
 
 import struct
-import subprocess
 import sys
 from collections import Counter
-from pathlib import Path
 
 sys.dont_write_bytecode = True
 
 from ledger import SCALES, chroma_length, verdict
 from records import Random
+from stored import run_oracle
 
-ORACLE = Path(__file__).resolve().parent.parent / "target" / "oracle" / "picture"
 MARK = 0x53484C54
 HEAD = struct.Struct("<I6I2iI10I")
 JUNK = 0xABCD  # what the output planes hold before the stage
@@ -115,7 +113,7 @@ def unpack(data):
 
 # ---- What is expected ----
 
-def checksum(samples):
+def fingerprint(samples):
     """FNV-1a of 64 bits, a sample for a byte."""
     value = 0xCBF29CE484222325
     for sample in samples:
@@ -124,14 +122,13 @@ def checksum(samples):
 
 
 def line(number, answer, planes):
-    return " ".join([str(number), *map(str, answer), *(f"{checksum(plane):016x}" for plane in planes)]) + "\n"
+    return " ".join([str(number), *map(str, answer), *(f"{fingerprint(plane):016x}" for plane in planes)]) + "\n"
 
 
-def oracle(pictures):
+def oracle(pictures, name="picture"):
     """The oracle's output planes for each accepted picture, and its counts of segments."""
-    done = subprocess.run([ORACLE], input=b"".join(picture.pack() for picture in pictures), capture_output=True,
-                          check=True)
-    samples = struct.unpack(f"<{len(done.stdout) // 2}H", done.stdout)
+    output, counts = run_oracle(name, b"".join(picture.pack() for picture in pictures))
+    samples = struct.unpack(f"<{len(output) // 2}H", output)
     planes, at = [], 0
     for picture in pictures:
         planes.append([])
@@ -139,7 +136,7 @@ def oracle(pictures):
             planes[-1].append(list(samples[at:at + len(plane)]))
             at += len(plane)
     assert at == len(samples)
-    return planes, done.stderr.decode().strip()
+    return planes, counts.strip()
 
 
 def expected(pictures):
@@ -295,9 +292,10 @@ def random_input(count, seed):
         yield picture.pack()
 
 
-def compare(expected_path, actual_path):
-    wanted, given = (open(path, "rb").read().decode(errors="replace").splitlines(keepends=True)
-                     for path in (expected_path, actual_path))
+def compare(input_path, expected_path, actual_path):
+    data, expected, actual = (open(path, "rb").read() for path in (input_path, expected_path, actual_path))
+    wanted, given = (text.decode(errors="replace").splitlines(keepends=True) for text in (expected, actual))
+    assert len(wanted) == sum(1 for _ in unpack(data)), "there is no line for each picture"
     print(f"{len(wanted)} pictures; {tally(wanted)}")
     if wanted == given:
         print("no difference")
@@ -305,7 +303,7 @@ def compare(expected_path, actual_path):
     number = next((i for i, pair in enumerate(zip(wanted, given)) if pair[0] != pair[1]),
                   min(len(wanted), len(given)))
     differ = sum(a != b for a, b in zip(wanted, given))
-    print(f"DIFFERENCE at record {number + 1} (the first is 1); {differ} lines differ")
+    print(f"DIFFERENCE at record {number + 1} (the first is 1); lines that differ: {differ}")
     print("expected:", wanted[number] if number < len(wanted) else "(nothing)")
     print("actual:  ", given[number] if number < len(given) else "(nothing)")
     return 1
@@ -320,7 +318,7 @@ def main():
         found, counts = expected([picture for picture, _ in unpack(sys.stdin.buffer.read())])
         sys.stdout.writelines(text for _, _, text in found)
         print(counts, file=sys.stderr)
-    elif arguments[:1] == ["compare"] and len(arguments) == 3:
+    elif arguments[:1] == ["compare"] and len(arguments) == 4:
         sys.exit(compare(*arguments[1:]))
     else:
         sys.exit(__doc__)

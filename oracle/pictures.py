@@ -13,44 +13,12 @@ import sys
 
 sys.dont_write_bytecode = True
 
+from chroma_pictures import averages, check_parting, parting, qpc_ends, tc_ends
 from ledger import SCALES
-from picture_records import HORIZONTAL, LOSSLESS, PCM, VERTICAL, Picture, expected, random_picture, tally
+from picture_case import Case, edges, moves, same_as, stays
+from picture_records import HORIZONTAL, LOSSLESS, PCM, VERTICAL, Picture, expected, random_picture, tally, unpack
 from records import Random
-from stored import is_checking, store
-
-
-class Case:
-    """A picture with a name, the number and place expected, and a check of the output planes."""
-
-    def __init__(self, name, picture, number=0, place=0, check=None):
-        self.name, self.picture, self.answer, self.check = name, picture, (number, place), check
-
-
-def moves(case_picture):
-    """A check that the output differs from the original."""
-    def check(planes):
-        assert planes != case_picture.planes
-    return check
-
-
-def stays(case_picture):
-    def check(planes):
-        assert planes == case_picture.planes
-    return check
-
-
-def same_as(planes):
-    def check(found):
-        assert found == planes, (found, planes)
-    return check
-
-
-def edges(picture, bs=2):
-    """Every cell has both edges, at one bS."""
-    def change(record, x, y):
-        record[1:4] = bytes([VERTICAL | HORIZONTAL, bs, bs])
-    picture.set_cells(change)
-    return picture
+from stored import ROOT, is_checking, store
 
 
 # ---- Document 01's figures ----
@@ -253,17 +221,6 @@ def quantizers():
         yield Case(f"every QP {qp}, empty slice list", picture)
 
 
-def parting():
-    """Where the Rust and the standard part (docs/DIFFERENCES.md, 1): chroma index 63, which the Rust clips to 57. The standard would
-    leave 108 and 112 at the edge."""
-    picture = Picture(24, 8, format=1, qp=51, cb_offset=12, slices=[(0, 6, 0, 1)])
-    picture.fill(1, lambda x, y: 100 if x < 8 else 120)
-    picture.set_cells(lambda record, x, y: record.__setitem__(slice(1, 3), bytes([VERTICAL, 2] if x == 4 else [0, 0])))
-    gives = 4 * (7 * [100] + [106, 114] + 3 * [120])
-    yield Case("the chroma index is clipped to 57 before it is lowered by 6", picture,
-               check=same_as([picture.planes[0], gives, picture.planes[2]]))
-
-
 def strengths():
     random = Random(9)
     for bs in (0, 1, 2):
@@ -289,6 +246,19 @@ def at_random():
     random = Random(20)
     for number in range(1, 6):
         yield Case(f"random {number}", random_picture(random, 48, 40))
+
+
+def example():
+    """The shipped example: four tiles, four slices, lossless and PCM cells. README.md prints how many samples move."""
+    data = (ROOT / "examples" / "example.pic").read_bytes()
+    (picture, _), = unpack(data)
+    assert picture.pack() == data
+
+    def check(planes):
+        restored(picture)(planes)
+        moved = [sum(a != b for a, b in zip(*pair)) for pair in zip(picture.planes, planes)]
+        assert moved == [6435, 941, 881], moved
+    yield Case("examples/example.pic", picture, check=check)
 
 
 # ---- Refusals ----
@@ -493,7 +463,7 @@ def several_faults():
 
 GROUPS = [figures, tile_figures, band_figures, formats_and_depths, sizes, tiles, slices, suppressed, quantizers,
           parting, strengths, largest_samples, at_random, settings, lengths, slice_records, tile_starts, cells, samples,
-          several_faults]
+          several_faults, tc_ends, qpc_ends, averages, example]
 
 
 def check_bands(cases, found):
@@ -509,9 +479,9 @@ def main():
     found, counts = expected([case.picture for case in cases] + [None])
     for case, (answer, planes, _) in zip(cases, found):
         assert answer == case.answer, (case.name, case.answer, answer)
-        if case.check:
-            case.check(planes)
+        case.look_at(planes)
     check_bands(cases, found)
+    check_parting([(case, planes) for case, (answer, planes, _) in zip(cases, found) if answer == (0, 0)])
     short = cases[0].picture.pack()[:-1]
     lines = [text for _, _, text in found]
     names = [(f"{case.answer[0]} {case.answer[1]}", case.name) for case in cases] + [("short", "one byte is missing")]

@@ -2,12 +2,17 @@
 """Records for the segment bench, and the answers to them.
 
     records.py random COUNT SEED              writes COUNT records, then a short one, to standard output
+    records.py expect                         reads records, writes the oracle's text
     records.py compare INPUT EXPECTED ACTUAL  tallies the answers; status 1 at a difference
 """
 
 import struct
 import sys
 from collections import Counter
+
+sys.dont_write_bytecode = True
+
+from stored import run_oracle
 
 RECORD = 72
 
@@ -122,11 +127,11 @@ def random_input(count, seed):
 def answers(text):
     """The bench's output, split into one list of lines for each record."""
     lines = text.splitlines()
-    found = []
-    while lines:
-        size = 5 if lines[0].split(" ")[0] in ("skip", "strong", "weak") else 1
-        found.append(lines[:size])
-        lines = lines[size:]
+    found, at = [], 0
+    while at < len(lines):
+        size = 5 if lines[at].split(" ")[0] in ("skip", "strong", "weak") else 1
+        found.append(lines[at:at + size])
+        at += size
     return found
 
 
@@ -168,6 +173,8 @@ def compare(input_path, expected_path, actual_path):
 def main():
     if sys.argv[1:2] == ["random"] and len(sys.argv) == 4:
         sys.stdout.buffer.write(random_input(int(sys.argv[2]), int(sys.argv[3])))
+    elif sys.argv[1:] == ["expect"]:
+        sys.stdout.buffer.write(run_oracle("bench", sys.stdin.buffer.read())[0])
     elif sys.argv[1:2] == ["compare"] and len(sys.argv) == 5:
         sys.exit(compare(*sys.argv[2:]))
     else:

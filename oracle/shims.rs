@@ -28,7 +28,8 @@ pub(crate) mod decode {
     /// Document 01, 'Chroma': from the index (average QP plus the Cb or Cr offset) to the chroma QP.
     pub(crate) fn qpc(index: i32, chroma_idc: u8, chroma_depth: u8) -> i32 {
         const ROWS_30_TO_43: [i32; 14] = [29, 30, 31, 32, 33, 33, 34, 34, 35, 35, 36, 36, 37, 37];
-        let index = index.clamp(-6 * (i32::from(chroma_depth) - 8), 57);
+        // Clause 8.7.2.5.5 has no clip; build.sh makes one oracle without it.
+        let index = if cfg!(unclipped) { index } else { index.clamp(-6 * (i32::from(chroma_depth) - 8), 57) };
         if chroma_idc != 1 {
             return index.min(51);
         }

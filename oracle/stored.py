@@ -1,17 +1,49 @@
-"""The files that a script of this folder makes: written, or held to what is there."""
+"""What the scripts of this folder share: the run of an oracle, and the files that they make, written or held to what is
+there."""
 
+import subprocess
 import sys
 from pathlib import Path
 
 ROOT = Path(__file__).resolve().parent.parent
+HOW = ("run oracle/build.sh SRC, where SRC holds the Rust source: src/deblock.rs and what it leans on, of the repository"
+       " awxkee/hpvcd at commit 9d5be06b6b")
+
+
+def oracle_path(name):
+    return ROOT / "target" / "oracle" / name
+
+
+def stop(line):
+    """Ends the script with one line, and with a status that is not that of a difference."""
+    print(line, file=sys.stderr)
+    sys.exit(2)
+
+
+def run_oracle(name, data):
+    """What target/oracle/NAME writes to standard output and to standard error. Where it cannot be run, one line
+    says what to do."""
+    if not oracle_path(name).exists():
+        stop(f"target/oracle/{name} is missing: {HOW}")
+    try:
+        done = subprocess.run([oracle_path(name)], input=data, capture_output=True)
+    except OSError as error:
+        stop(f"target/oracle/{name} cannot be run ({error.strerror}): {HOW}")
+    if done.returncode:
+        said = " ".join(done.stderr.decode(errors="replace").splitlines()[:3])
+        stop(f"target/oracle/{name} ended with status {done.returncode}: {said}")
+    return done.stdout, done.stderr.decode()
 
 
 def store(files, checking):
     """`files`: {name from the repository's root: bytes}."""
     for name, content in files.items():
+        path = ROOT / name
         if not checking:
-            (ROOT / name).write_bytes(content)
-        elif (ROOT / name).read_bytes() != content:
+            path.write_bytes(content)
+        elif not path.is_file():
+            sys.exit(f"{name} is missing: {Path(sys.argv[0]).name} without --check writes it")
+        elif path.read_bytes() != content:
             sys.exit(f"{name} is not what {Path(sys.argv[0]).name} would write")
 
 

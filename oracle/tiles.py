@@ -14,8 +14,9 @@ import sys
 sys.dont_write_bytecode = True
 
 from ledger import SCALES, verdict
-from picture_records import HORIZONTAL, LOSSLESS, PCM, VERTICAL, Picture, checksum, oracle, random_picture
-from pictures import FAR, FAULTS, Case, colour, moves, restored, stays, step_at, t1
+from picture_case import Case, moves, stays
+from picture_records import HORIZONTAL, LOSSLESS, PCM, VERTICAL, Picture, fingerprint, oracle, random_picture
+from pictures import FAR, FAULTS, colour, example, restored, step_at, t1
 from records import Random
 from stored import is_checking, store
 
@@ -86,7 +87,7 @@ def answer_text(picture, answer, planes, i, j, wrong):
         return "no tile"
     if wrong:
         return "lengths"
-    return " ".join(["differing 0", *(f"{checksum(part):016x}" for part in tile_planes(picture, planes, i, j))])
+    return " ".join(["differing 0", *(f"{fingerprint(part):016x}" for part in tile_planes(picture, planes, i, j))])
 
 
 def lines(number, picture, answer, planes):
@@ -256,7 +257,7 @@ def refusals():
     yield Case("refused: log2 CTB 4294967295", picture, 4, 0)
 
 
-GROUPS = [figures, grids, many, twins, refusals]
+GROUPS = [figures, grids, many, twins, refusals, example]
 
 
 def check_cuts(accepted):
@@ -308,8 +309,7 @@ def main():
     filtered, counts = oracle([case.picture for case in cases if case.answer == (0, 0)])
     accepted = list(zip([case for case in cases if case.answer == (0, 0)], filtered))
     for case, planes in accepted:
-        if case.check:
-            case.check(planes)
+        case.look_at(planes)
     tiles = check_cuts(accepted)
     check_borders(accepted)
     check_neighbour(accepted)

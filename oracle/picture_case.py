@@ -1,0 +1,45 @@
+"""A stored picture with what is expected of it."""
+
+from picture_records import HORIZONTAL, VERTICAL
+
+
+class Case:
+    """A picture with a name, the number and place expected, and a check of the output planes."""
+
+    def __init__(self, name, picture, number=0, place=0, check=None):
+        self.name, self.picture, self.answer, self.check = name, picture, (number, place), check
+
+    def look_at(self, planes):
+        """Stops where the output planes are not what the case says they are."""
+        try:
+            if self.check:
+                self.check(planes)
+        except AssertionError as error:
+            raise AssertionError(f"{self.name}: other samples than expected") from error
+
+
+def moves(case_picture):
+    """A check that the output differs from the original."""
+    def check(planes):
+        assert planes != case_picture.planes
+    return check
+
+
+def stays(case_picture):
+    def check(planes):
+        assert planes == case_picture.planes
+    return check
+
+
+def same_as(planes):
+    def check(found):
+        assert found == planes
+    return check
+
+
+def edges(picture, bs=2):
+    """Every cell has both edges, at one bS."""
+    def change(record, x, y):
+        record[1:4] = bytes([VERTICAL | HORIZONTAL, bs, bs])
+    picture.set_cells(change)
+    return picture
