@@ -1,5 +1,6 @@
 //! One picture on both sides: the ledger and the stage, and where it is accepted the customer's Rust.
 
+use crate::counted::counted;
 use crate::coverage::Coverage;
 use crate::cut;
 use crate::ledger;
@@ -27,10 +28,11 @@ fn same_planes(p: &Picture, ours: &[Vec<u16>; 3], theirs: &[Vec<u16>; 3], whose:
         }
         let Some(at) = (0..ours[plane].len()).find(|&at| ours[plane][at] != theirs[plane][at]) else { continue };
         let width = p.plane_size(plane).0;
-        let differ = ours[plane].iter().zip(&theirs[plane]).filter(|(a, b)| a != b).count();
+        let differ = ours[plane].iter().zip(&theirs[plane]).filter(|(a, b)| a != b).count() as u64;
+        let differ = counted(differ, "sample of the plane differs", "samples of the plane differ");
         let (name, x, y) = (PLANE_NAMES[plane], at % width, at / width);
         let values = format!("stage {}, {whose} {}, original {}", ours[plane][at], theirs[plane][at], p.planes[plane][at]);
-        return Err(format!("{name} sample ({x}, {y}): {values}; {differ} samples of the plane differ"));
+        return Err(format!("{name} sample ({x}, {y}): {values}; {differ}"));
     }
     Ok(())
 }

@@ -1,5 +1,6 @@
 //! Parts of a picture: the cut of a tile (document 01, 'The cut'), and term 3.
 
+use crate::counted::counted;
 use crate::ledger;
 use crate::ours;
 use crate::picture::{CELL_BYTES, PLANE_NAMES, Picture};
@@ -72,9 +73,11 @@ fn check_tile(p: &Picture, whole: &[Vec<u16>; 3], tile: Part, random: &mut Rando
             continue;
         }
         let within = copy(&whole[plane], width, in_plane(p, plane, tile));
-        let differ = within.iter().zip(&answer.planes[plane]).filter(|(a, b)| a != b).count();
+        let differ = within.iter().zip(&answer.planes[plane]).filter(|(a, b)| a != b).count() as u64;
         if differ > 0 {
-            return Err(format!("{differ} {} samples differ from the cut's", PLANE_NAMES[plane]));
+            let name = PLANE_NAMES[plane];
+            let differ = counted(differ, &format!("{name} sample differs"), &format!("{name} samples differ"));
+            return Err(format!("{differ} from the cut's"));
         }
     }
     Ok(())

@@ -13,6 +13,9 @@ use shims::{config, decode, exec, threadpool, tiles};
 #[path = "../target/oracle/customer/src/deblock.rs"]
 mod deblock;
 
+#[path = "../rust/src/counted.rs"]
+mod counted;
+
 #[path = "../rust/src/library.rs"]
 mod library;
 

@@ -1,13 +1,15 @@
 #!/usr/bin/env python3
-"""Is the comparison awake? Breaks the stage by one line at a time, and runs the comparison on each broken stage.
+"""Is the comparison awake? Breaks the stage at one place at a time, and runs the comparison on each broken stage.
 
     compare/mutants.py [SRC]            SRC: the customer's folder docs/src, by default ../shared/docs/src seen from the repository's root
     compare/mutants.py [SRC] --only K   mutant K alone
+    compare/mutants.py --places         builds nothing: does each mutant's place stand once in the sources?
 
-A mutant is a copy of the sources under target/mutants with one line changed, built without proof: the kit's `rattle-cases`, which
+A mutant is a copy of the sources under target/mutants changed at one place, built without proof: the kit's `rattle-cases`, which
 `rt try` runs, lowers a program that calls the stage; a stand-in for its clang keeps the module that it is given, and from that a shared
 library is made, which the comparison loads in place of the proved static library. The unchanged sources go first: there the comparison
-must find nothing. Prints a line for each mutant. The status is 0 where every mutant was noticed but those that are said to be unnoticeable.
+must find nothing. Prints a line for each mutant. The status is 0 where every mutant was noticed but those that are argued to change no
+output.
 """
 
 import platform
@@ -22,8 +24,6 @@ from mutant_edits import EDITS
 
 ROOT = Path(__file__).resolve().parent.parent
 WORK = ROOT / "target" / "mutants"
-CRATES = ["ints", "thresholds", "lines", "picture", "filter", "planes", "segments", "windows", "passes", "restore", "checks", "stage",
-          "tinladle"]
 ACCEPTED, DAMAGED, SEED = 4000, 8000, 7
 PATIENCE = 120  # seconds for one run: a mutant may not end
 
@@ -50,14 +50,30 @@ exit 1
 """
 
 
+def crates_of(name):
+    """The crate and what it depends on, in the order of crates.txt, where each crate stands behind what it needs."""
+    lines = [line.split(":") for line in (ROOT / "crates.txt").read_text().splitlines() if ":" in line and line[0] != "#"]
+    needs = {crate: words.split() for crate, words in lines}
+    wanted = {name}
+    for crate in reversed(needs):
+        if crate in wanted:
+            wanted.update(needs[crate])
+    return [crate for crate in needs if crate in wanted]
+
+
+CRATES = crates_of("tinladle")
+
+
 def run(*words, **more):
     return subprocess.run([str(word) for word in words], capture_output=True, text=True, **more)
 
 
 def must(*words):
+    """Runs a command that must succeed. Our own scripts say in a line of their own why they do not."""
     done = run(*words)
     if done.returncode:
-        sys.exit(f"{words[0]} failed:\n{done.stdout}{done.stderr}")
+        own = ROOT in Path(words[0]).parents
+        sys.exit(done.stderr.strip() if own else f"{words[0]} failed:\n{done.stdout}{done.stderr}")
 
 
 def kit():
@@ -68,6 +84,7 @@ def kit():
 
 def prepare(source):
     """The program, the stand-in toolchain, and the comparison linked to a shared library."""
+    must(ROOT / "scripts" / "customer.sh", source)
     _, own = kit()
     shutil.rmtree(WORK, ignore_errors=True)
     (WORK / "program" / "src").mkdir(parents=True)
@@ -79,7 +96,6 @@ def prepare(source):
         (tools / "bin" / tool).symlink_to(own / "toolchain" / "bin" / tool)
     (tools / "bin" / "clang").write_text(STAND_IN)
     (tools / "bin" / "clang").chmod(0o755)
-    must(ROOT / "scripts" / "customer.sh", source)
     must("cc", "-O2", "-fPIC", "-I", ROOT / "include", "-c", "-o", WORK / "unproved.o", ROOT / "compare" / "unproved.c")
     unmutated = build(copy_sources("unchanged"))
     must("rustc", "--edition", "2024", "-C", "opt-level=3", "-C", "debug-assertions=on", "-C", "overflow-checks=on", "-L",
@@ -109,7 +125,7 @@ def build(folder):
     clang = [own / "toolchain" / "bin" / "clang", "--target=x86_64-unknown-linux-gnu", "-march=x86-64", "-x", "ir"]
     must(*clang, module, "-S", "-emit-llvm", "-O0", "-o", folder / "stage.ll")
     text = (folder / "stage.ll").read_text()
-    inner = '@"tinladle::tinladle_deblock"('
+    inner = '@"tinladle::deblock::tinladle_deblock"('
     assert f"define internal noundef i32 {inner}" in text
     text = text.replace(f"define internal noundef i32 {inner}", f"define noundef i32 {inner}")
     text = text.replace(inner, "@tinladle_unproved(").replace("@main(", "@unused_main(")
@@ -136,14 +152,28 @@ def compare(folder):
     return found[0].split(": ", 1)[1]
 
 
+def place(crates, edit):
+    """The file that a mutant changes, in a folder of crates."""
+    crate, name = edit.file.split("/")
+    return crates / crate / "src" / f"{name}.rt"
+
+
+def check_places():
+    """Stops where a mutant's text does not stand once in its file, and names each such mutant."""
+    wrong = []
+    for number, edit in enumerate(EDITS, 1):
+        path = place(ROOT / "crates", edit)
+        count = path.read_text().count(edit.old) if path.is_file() else 0
+        if count != 1:
+            wrong.append(f"mutant {number}: {edit.old!r} is {count} times in {edit.file}")
+    if wrong:
+        sys.exit("\n".join(wrong))
+
+
 def mutate(number, edit):
     folder = copy_sources(f"{number:02}")
-    crate, name = edit.file.split("/")
-    path = folder / crate / "src" / f"{name}.rt"
-    text = path.read_text()
-    if text.count(edit.old) != 1:
-        sys.exit(f"mutant {number}: {edit.old!r} is {text.count(edit.old)} times in {edit.file}")
-    path.write_text(text.replace(edit.old, edit.new))
+    path = place(folder, edit)
+    path.write_text(path.read_text().replace(edit.old, edit.new))
     return folder
 
 
@@ -165,6 +195,10 @@ def try_one(number, edit):
 
 def main():
     words = sys.argv[1:]
+    check_places()
+    if words == ["--places"]:
+        print(f"each of {len(EDITS)} mutants has its place")
+        return
     only = None
     if "--only" in words:
         at = words.index("--only")
@@ -179,7 +213,7 @@ def main():
     print("| | file | line | mutant | noticed by |\n|---|---|---|---|---|")
     results = [try_one(number, edit) for number, edit in enumerate(EDITS, 1) if only in (None, number)]
     noticed = sum(not edit.equal for edit in EDITS)
-    print(f"{len(results)} mutants of {len(EDITS)} tried, {results.count(True)} as expected; {noticed} of all can be noticed")
+    print(f"{len(results)} of {len(EDITS)} mutants tried, {results.count(True)} as expected; {noticed} of all are expected to be noticed")
     sys.exit(0 if good and results and all(results) else 1)
 
 
