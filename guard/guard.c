@@ -1,6 +1,7 @@
-/* Calls tinladle_deblock as a C program does. Every buffer lies between guard words; guards and inputs must stay as they were, and on a
- * refusal the junk in the output planes too. The expected samples are document 01's figures: of S1, a step from 100 to 104 at QP 37 and
- * bS 2 becomes 100 101 101 102 103 103 104 104. The refusals are the small inputs of its ledger, and a few more. */
+/* Calls tinladle_deblock as a C program does. Every buffer lies between guard words; guards and inputs must stay as
+ * they were, and on a refusal the junk in the output planes too. The expected samples are document 01's figures: of
+ * S1, a step from 100 to 104 at QP 37 and bS 2 becomes 100 101 101 102 103 103 104 104. The refusals are the small
+ * inputs of its ledger, and a few more. */
 #include <stddef.h>
 #include <stdio.h>
 #include <stdlib.h>
@@ -54,6 +55,16 @@ struct Picture {
     struct Lent lent[BUFFERS];
 };
 
+/* The arguments of every function of the header: a picture's nine settings and seven lists; then output planes. */
+#define LENT16(p, which) lent(&(p)->lent[which]), (p)->lent[which].bytes / 2
+#define LENT8(p, which) lent(&(p)->lent[which]), (p)->lent[which].bytes
+#define SETTINGS(p) \
+    (p)->width, (p)->height, (p)->format, (p)->luma_depth, (p)->chroma_depth, (p)->log2_ctb, \
+    (p)->cb_offset, (p)->cr_offset, (p)->pcm
+#define LISTS(p) \
+    LENT16(p, Y), LENT16(p, CB), LENT16(p, CR), LENT8(p, CELL), LENT8(p, SLICE), LENT16(p, COLUMN), LENT16(p, ROW)
+#define OUTPUTS(p) LENT16(p, OUT_Y), LENT16(p, OUT_CB), LENT16(p, OUT_CR)
+
 static uint16_t *samples(struct Picture *p, int which) { return at(&p->lent[which]); }
 
 static uint8_t *cell(struct Picture *p, int column, int row) {
@@ -69,29 +80,29 @@ static void resize(struct Picture *p, int which, size_t bytes, int fill) {
     p->lent[which] = b;
 }
 
+/* An edge of a cell's left side, on every row of cells. */
+static void set_edge(struct Picture *p, int column, int bs) {
+    for (int row = 0; row < HEIGHT / 4; row++) cell(p, column, row)[1] = 1, cell(p, column, row)[2] = (uint8_t)bs;
+}
+
 /* Left of column 8 all luma is 100, from there on 104; the edge at column 8 is the only one. Chroma is flat. */
 static struct Picture accepted(void) {
-    static const size_t bytes[BUFFERS] = { 2 * LUMA, 2 * CHROMA, 2 * CHROMA, 8 * CELLS, 0, 2, 2, 2 * LUMA, 2 * CHROMA, 2 * CHROMA, 8 };
+    static const size_t bytes[BUFFERS] = {
+        2 * LUMA, 2 * CHROMA, 2 * CHROMA, 8 * CELLS, 0, 2, 2, 2 * LUMA, 2 * CHROMA, 2 * CHROMA, 8
+    };
     struct Picture p = { WIDTH, HEIGHT, 1, 8, 8, 4, 0, 0, false, { { 0 } } };
     for (int i = 0; i < BUFFERS; i++) p.lent[i] = lend(bytes[i], i < INPUTS ? 0 : OUT_JUNK);
     for (int i = 0; i < LUMA; i++) samples(&p, Y)[i] = i % WIDTH < 8 ? 100 : 104;
     for (int i = 0; i < CHROMA; i++) samples(&p, CB)[i] = 60, samples(&p, CR)[i] = 70;
-    for (int row = 0; row < HEIGHT / 4; row++) {
-        for (int column = 0; column < WIDTH / 4; column++) cell(&p, column, row)[0] = 37 + 64;
-        cell(&p, 2, row)[1] = 1;
-        cell(&p, 2, row)[2] = 2;
-    }
+    for (int i = 0; i < CELLS; i++) cell(&p, i, 0)[0] = 37 + 64;
+    set_edge(&p, 2, 2);
     return p;
 }
 
 static uint32_t call(struct Picture *p, uint64_t *place) {
     for (int i = 0; i < BUFFERS; i++) remember(&p->lent[i]);
-    struct Lent *l = p->lent;
-    uint32_t number = tinladle_deblock(p->width, p->height, p->format, p->luma_depth, p->chroma_depth, p->log2_ctb, p->cb_offset,
-        p->cr_offset, p->pcm, lent(&l[Y]), l[Y].bytes / 2, lent(&l[CB]), l[CB].bytes / 2, lent(&l[CR]), l[CR].bytes / 2, lent(&l[CELL]),
-        l[CELL].bytes, lent(&l[SLICE]), l[SLICE].bytes, lent(&l[COLUMN]), l[COLUMN].bytes / 2, lent(&l[ROW]), l[ROW].bytes / 2, lent(&l[OUT_Y]),
-        l[OUT_Y].bytes / 2, lent(&l[OUT_CB]), l[OUT_CB].bytes / 2, lent(&l[OUT_CR]), l[OUT_CR].bytes / 2, at(&l[PLACE]));
-    memcpy(place, at(&l[PLACE]), sizeof *place);
+    uint32_t number = tinladle_deblock(SETTINGS(p), LISTS(p), OUTPUTS(p), at(&p->lent[PLACE]));
+    memcpy(place, at(&p->lent[PLACE]), sizeof *place);
     return number;
 }
 
@@ -103,7 +114,7 @@ static void expect(int holds, const char *name, const char *what) {
     printf("%s: DIFFERENCE: %s\n", name, what);
 }
 
-/* Runs one picture and looks at all that no answer may change. Afterwards the caller looks at the outputs of an accepted one. */
+/* Runs one picture and looks at all that no answer may change. What an accepted one left is the caller's to check. */
 static void run(struct Picture *p, const char *name, uint32_t number, uint64_t place) {
     uint64_t stored;
     uint32_t answer = call(p, &stored);
@@ -127,7 +138,9 @@ static void refused(struct Picture *p, const char *name, uint32_t number, uint64
 
 /* S1 on the rows from first to end; the other rows as they were. */
 static void expect_step(struct Picture *p, const char *name, int first, int end) {
-    static const uint16_t filtered[16] = { 100, 100, 100, 100, 100, 101, 101, 102, 103, 103, 104, 104, 104, 104, 104, 104 };
+    static const uint16_t filtered[16] = {
+        100, 100, 100, 100, 100, 101, 101, 102, 103, 103, 104, 104, 104, 104, 104, 104
+    };
     for (int i = 0; i < LUMA; i++) {
         int x = i % WIDTH, y = i / WIDTH;
         uint16_t original = x < 8 ? 100 : 104;
@@ -137,7 +150,8 @@ static void expect_step(struct Picture *p, const char *name, int first, int end)
 }
 
 static void expect_copied(struct Picture *p, const char *name, int original, int output) {
-    expect(memcmp(at(&p->lent[original]), at(&p->lent[output]), p->lent[output].bytes) == 0, name, "a sample that no edge touches");
+    int same = memcmp(at(&p->lent[original]), at(&p->lent[output]), p->lent[output].bytes) == 0;
+    expect(same, name, "a sample that no edge touches");
 }
 
 static void expect_chroma_copied(struct Picture *p, const char *name) {
@@ -172,7 +186,7 @@ static void luma_cases(void) {
 static struct Picture chroma_step(void) {
     struct Picture p = accepted();
     for (int i = 0; i < CHROMA; i++) samples(&p, CB)[i] = i % (WIDTH / 2) < 8 ? 50 : 60;
-    for (int row = 0; row < HEIGHT / 4; row++) cell(&p, 4, row)[1] = 1, cell(&p, 4, row)[2] = 2;
+    set_edge(&p, 4, 2);
     return p;
 }
 
@@ -196,6 +210,24 @@ static void chroma_cases(void) {
     run(&p, "T1 in Cb", 0, 0);
     expect_step(&p, "T1 in Cb", 0, HEIGHT);
     expect_chroma_copied(&p, "T1 in Cb");
+    done(&p);
+}
+
+/* What the header says of edges that are in rule and are not filtered. */
+static void unfiltered_cases(void) {
+    struct Picture p = accepted();
+    for (int i = 0; i < LUMA; i++) samples(&p, Y)[i] = i % WIDTH < 4 ? 100 : 104;
+    set_edge(&p, 0, 2), set_edge(&p, 1, 2), set_edge(&p, 2, 0);
+    run(&p, "edges at columns 0 and 4", 0, 0);
+    expect_copied(&p, "edges at columns 0 and 4", Y, OUT_Y);
+    expect_chroma_copied(&p, "edges at columns 0 and 4");
+    done(&p);
+
+    p = chroma_step();
+    set_edge(&p, 4, 1);
+    run(&p, "K1's step at bS 1", 0, 0);
+    expect_step(&p, "K1's step at bS 1", 0, HEIGHT);
+    expect_chroma_copied(&p, "K1's step at bS 1");
     done(&p);
 }
 
@@ -228,8 +260,10 @@ static void refused_settings(void) {
 }
 
 static void refused_lengths(void) {
-    static const char *names[BUFFERS] = { "6: y short", "6: cb short", "6: cr short", "6: cells short", "6: slices of 2 bytes",
-        "6: no column start", "6: no row start", "6: out_y short", "6: out_cb short", "6: out_cr short", 0 };
+    static const char *names[BUFFERS] = {
+        "6: y short", "6: cb short", "6: cr short", "6: cells short", "6: slices of 2 bytes", "6: no column start",
+        "6: no row start", "6: out_y short", "6: out_cb short", "6: out_cr short", 0
+    };
     for (int i = 0; i < PLACE; i++) {
         struct Picture p = accepted();
         resize(&p, i, i == SLICE ? 2 : p.lent[i].bytes - 2, i < INPUTS ? 0 : OUT_JUNK);
@@ -276,6 +310,7 @@ static void refused_lists(void) {
 int main(void) {
     luma_cases();
     chroma_cases();
+    unfiltered_cases();
     refused_settings();
     refused_lengths();
     refused_lists();

@@ -1,7 +1,7 @@
 /* tinladle: the HEVC deblocking filter on one whole picture (ITU-T H.265, clause 8.7.2).
  *
- * The library is libtinladle.a. It allocates nothing, keeps nothing between calls and calls nothing, so any number of threads may run it on
- * planes of their own.
+ * The library is libtinladle.a. It allocates nothing, keeps nothing between calls and calls nothing, so any number of
+ * threads may run it on planes of their own.
  */
 #ifndef TINLADLE_H
 #define TINLADLE_H
@@ -14,9 +14,10 @@
 extern "C" {
 #endif
 
-/* Filters one picture. The originals y, cb, cr are read; the filtered samples go to out_y, out_cb, out_cr.
+/* A PICTURE, AS EVERY FUNCTION HERE TAKES IT
  *
- * Every value of every argument is allowed: what is not a picture is refused, with a number. All lengths are counted in elements.
+ * Nine settings and seven lists that are read, in this order. Every value of every argument is allowed: what is not a
+ * picture is refused, with a number. All lengths are counted in elements.
  *
  *   width, height             in luma samples: multiples of 8, from 8 to 8192
  *   chroma_format             0 none, 1 4:2:0, 2 4:2:2, 3 4:4:4
@@ -25,17 +26,14 @@ extern "C" {
  *   cb_qp_offset              pps_cb_qp_offset, -12 to 12; checked in every format
  *   cr_qp_offset              pps_cr_qp_offset, -12 to 12; checked in every format
  *   pcm_loop_filter_disabled  a cell marked PCM keeps its original samples
+ *
  *   y, y_len                  the original luma samples, row by row: width * height
  *   cb, cb_len                the original Cb samples, row by row, in the format's own size; none in format 0
  *   cr, cr_len                the original Cr samples, likewise
- *   cells, cells_len          8 bytes for each 4 by 4 luma block, row by row (below)
- *   slices, slices_len        4 bytes for each slice, at most 2400 bytes (below); none stands for one slice 0, 6, 6, 1
+ *   cells, cells_len          8 bytes for each 4 by 4 luma block, row by row
+ *   slices, slices_len        4 bytes for each slice, at most 2400 bytes; none stands for one slice 0, 6, 6, 1
  *   tile_columns, columns_len the first CTB column of each tile column, 1 to 20 entries: 0, then rising
  *   tile_rows, rows_len       the first CTB row of each tile row, 1 to 22 entries: 0, then rising
- *   out_y, out_y_len          where the filtered luma samples go; as long as y
- *   out_cb, out_cb_len        where the filtered Cb samples go; as long as cb
- *   out_cr, out_cr_len        where the filtered Cr samples go; as long as cr
- *   place                     where the place of the answer is stored, always
  *
  * The 8 bytes of a cell:
  *   0     QP plus 64; the QP is from -6 * (luma_depth - 8) to 51
@@ -46,16 +44,27 @@ extern "C" {
  *   6, 7  0
  *
  * The 4 bytes of a slice:
- *   0     1 where its edges are not filtered, else 0
+ *   0     1 where the left and top edges of its cells are not filtered, else 0
  *   1     slice_beta_offset_div2 plus 6, 0 to 12
  *   2     slice_tc_offset_div2 plus 6, 0 to 12
  *   3     1 where the filter runs across its left and top borders, else 0
  *
- * No edge between two tiles is filtered.
+ * WHICH EDGES ARE FILTERED. Nothing is refused for these rules: an edge that one of them leaves out is silently not
+ * filtered, and the picture comes out different.
+ *   - Edges lie on the multiples of 8 of each plane's own samples. An edge bit anywhere else is allowed and does
+ *     nothing. A chroma plane with half the columns (4:2:0, 4:2:2) has its vertical edges at luma columns 16, 32, ..,
+ *     one with half the rows (4:2:0) its horizontal edges at luma rows 16, 32, ...
+ *   - Four samples along an edge are filtered alike. Where in chroma they span two cells on a side, the first of the
+ *     two gives edge bit, bS, QP and slice.
+ *   - No edge on the picture's border, luma column 0 or row 0, is filtered, whatever its bits.
+ *   - bS 1 filters luma alone. Chroma is filtered where bS is 2.
+ *   - No edge between two tiles is filtered. A stream that filters across its tiles
+ *     (loop_filter_across_tiles_enabled_flag 1) is passed as one tile, with 0 alone in tile_columns and in tile_rows.
  *
- * Returned is a number, and *place says where. The causes are looked for in this order and the first is returned:
+ * Each function returns a number, and *place says where. The causes are looked for in this order, and the first is
+ * returned:
  *
- *   0   accepted: the output planes hold the filtered picture           place 0
+ *   0   accepted                                                        place 0
  *   1   width or height not allowed                                     place 0
  *   2   chroma_format above 3                                           place 0
  *   3   a depth outside 8 to 16                                         place 0
@@ -70,13 +79,26 @@ extern "C" {
  *   9   a cell out of range, or its slice not in the list               the first such cell
  *   10  an original sample above 2^depth - 1                            the first such, counted through y, cb, cr
  *
- * On a refusal, numbers 1 to 10, nothing but *place is written: the output planes hold what they held.
+ * On a refusal, any number but 0, nothing but *place is written.
  *
  * What a caller owes, and no check can see:
- *   - Each pointer points to as many elements as its length says, aligned for their type, which nothing else changes during the call.
- *   - A pointer may be null only where its length is 0, as those of cb, cr, out_cb and out_cr in format 0. place is never null.
- *   - No output plane overlaps another output plane or any input, and *place overlaps none of them. Inputs may overlap one another.
+ *   - Each pointer points to as many elements as its length says, aligned for their type, which nothing else changes
+ *     during the call.
+ *   - A pointer may be null only where its length is 0, as that of cb and cr in format 0. place is never null.
+ *   - What a function writes overlaps nothing else that it is handed: no output another output, an input or *place.
+ *     Inputs may overlap one another.
  *   - pcm_loop_filter_disabled is 0 or 1 in its byte, as every bool of C is.
+ */
+
+/* Filters one picture. The originals y, cb, cr are read; the filtered samples go to out_y, out_cb, out_cr.
+ *
+ *   a picture                 nine settings and seven lists, as above
+ *   out_y, out_y_len          where the filtered luma samples go; as long as y
+ *   out_cb, out_cb_len        where the filtered Cb samples go; as long as cb
+ *   out_cr, out_cr_len        where the filtered Cr samples go; as long as cr
+ *   place                     where the place of the answer is stored, always
+ *
+ * Returned is 0, and the output planes hold the filtered picture; or 1 to 10, and they hold what they held.
  */
 uint32_t tinladle_deblock(
     uint32_t width, uint32_t height, uint32_t chroma_format, uint32_t luma_depth, uint32_t chroma_depth,

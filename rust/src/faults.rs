@@ -1,11 +1,13 @@
 //! The words of a refusal after its cause: what of the picture is wrong at the place that the stage named.
 //!
-//! Nothing is decided here. Were nothing wrong to be found, the words would be missing, and number and place would stand.
+//! Nothing is decided here. Were nothing wrong to be found, the words would be missing, and number and place would
+//! stand.
 
+use crate::counted::counted;
 use crate::picture::Picture;
 use crate::records::{Cell, Slice};
 use crate::refusal::Cause;
-use crate::settings::Plane;
+use crate::settings::{Plane, Settings};
 
 /// The faults that hold, joined.
 fn those<const N: usize>(faults: [(bool, String); N]) -> String {
@@ -15,7 +17,7 @@ fn those<const N: usize>(faults: [(bool, String); N]) -> String {
 
 pub(crate) fn detail(cause: Cause, place: u64, picture: &Picture<'_>, out_lengths: [usize; 3]) -> String {
     let s = &picture.settings;
-    let size = |n: u32| !(8..=8192).contains(&n) || !n.is_multiple_of(8);
+    let size = |n: u32| !(8..=Settings::LARGEST).contains(&n) || !n.is_multiple_of(8);
     let depth = |n: u32| !(8..=16).contains(&n);
     let offset = |n: i32| !(-12..=12).contains(&n);
     match cause {
@@ -47,19 +49,20 @@ fn length(picture: &Picture<'_>, out_lengths: [usize; 3]) -> String {
         let wanted = s.plane_len(plane);
         for (kind, given) in [("", picture.plane(plane).len()), ("output ", out_lengths[i])] {
             if given as u64 != wanted {
-                return format!("{kind}{plane} has {given} samples, not {wanted}");
+                return format!("{kind}{plane} has {}, not {wanted}", counted(given as u64, "sample", "samples"));
             }
         }
     }
+    let bytes = |list: &[u8]| counted(list.len() as u64, "byte", "bytes");
     if picture.cells.len() as u64 != s.cell_bytes() {
-        return format!("the cells have {} bytes, not {}", picture.cells.len(), s.cell_bytes());
+        return format!("the cells have {}, not {}", bytes(picture.cells), s.cell_bytes());
     }
-    let bytes = picture.slices.len();
-    if !bytes.is_multiple_of(Slice::BYTES) {
-        return format!("the slices have {bytes} bytes, not a multiple of 4");
+    let slices = picture.slices;
+    if !slices.len().is_multiple_of(Slice::BYTES) {
+        return format!("the slices have {}, not a multiple of 4", bytes(slices));
     }
-    if bytes > Slice::BYTES * Slice::MOST {
-        return format!("the slices have {bytes} bytes, above 2400");
+    if slices.len() > Slice::BYTES * Slice::MOST {
+        return format!("the slices have {}, above 2400", bytes(slices));
     }
     for (kind, starts, most) in [("column", picture.tile_columns, 20), ("row", picture.tile_rows, 22)] {
         if starts.is_empty() || starts.len() > most {

@@ -1,38 +1,63 @@
-//! The one call into the proved library. The crate's unsafe code is this call and the declaration in library.rs of what it calls.
+//! The calls into the proved library, made safe by their signatures. The crate's unsafe code, without the tool's, is
+//! the one call in the macro and, in library.rs, the declarations of what it calls.
 
 #![allow(unsafe_code)]
 
-use crate::library::tinladle_deblock;
-use crate::picture::{Picture, Planes};
+use crate::library;
+use crate::picture::Picture;
 
-/// The stage's number and place; on 0 the planes hold the filtered picture, else what they held.
-pub(crate) fn call(picture: &Picture<'_>, out: &mut Planes<'_>) -> (u32, u64) {
-    let s = &picture.settings;
-    let mut place = 0;
-    // SAFETY: what the header says a caller owes.
-    // - Each pointer is a slice's own and goes with that slice's length: as many elements, aligned, and nothing else changes them,
-    //   since the slices are borrowed for the whole call. The function allocates nothing and keeps no pointer.
-    // - No pointer is null: a slice's never is, an empty one's is dangling with length 0, and `place` is a local.
-    // - The outputs are `&mut` slices and `place` a local of this function, so that none overlaps another or any input.
-    // - The switch is a Rust bool: 0 or 1 in its byte.
-    // Every value and every length is allowed; the function returns for all of them and never unwinds.
-    #[rustfmt::skip]
-    let number = unsafe {
-        tinladle_deblock(
-            s.width, s.height, s.chroma_format, s.luma_depth, s.chroma_depth,
-            s.log2_ctb, s.cb_qp_offset, s.cr_qp_offset, s.pcm_loop_filter_disabled,
-            picture.y.as_ptr(), picture.y.len(),
-            picture.cb.as_ptr(), picture.cb.len(),
-            picture.cr.as_ptr(), picture.cr.len(),
-            picture.cells.as_ptr(), picture.cells.len(),
-            picture.slices.as_ptr(), picture.slices.len(),
-            picture.tile_columns.as_ptr(), picture.tile_columns.len(),
-            picture.tile_rows.as_ptr(), picture.tile_rows.len(),
-            out.y.as_mut_ptr(), out.y.len(),
-            out.cb.as_mut_ptr(), out.cb.len(),
-            out.cr.as_mut_ptr(), out.cr.len(),
-            &mut place,
-        )
-    };
-    (number, place)
+/// Safe functions over C functions that take a picture. Its settings and lists stand here once; a row has what is a
+/// function's own, in the order of the C arguments: the lists that it reads, the lists that it writes, the values
+/// that it stores. The answer is the number and the place.
+macro_rules! of_a_picture {
+    ($(
+        $(#[$note:meta])*
+        fn $name:ident(
+            reads($($read:ident: $r:ty),*) writes($($write:ident: $w:ty),*) stores($($store:ident: $s:ty),*)
+        );
+    )*) => {$(
+        $(#[$note])*
+        pub(crate) fn $name(
+            picture: &Picture<'_>,
+            $($read: &[$r],)*
+            $($write: &mut [$w],)*
+            $($store: &mut $s,)*
+        ) -> (u32, u64) {
+            let s = &picture.settings;
+            let mut place = 0;
+            // SAFETY: what the header says a caller owes.
+            // - Each pointer is a slice's own and goes with that slice's length: as many elements, aligned, and
+            //   nothing else changes them, since the slices are borrowed for the whole call. The library allocates
+            //   nothing and keeps no pointer.
+            // - No pointer is null: a slice's never is (an empty one's is dangling, with length 0), nor is a
+            //   reference.
+            // - What is written is a parameter that is `&mut`, or `place`, a local: none overlaps another or any
+            //   input.
+            // - The switch is a Rust bool: 0 or 1 in its byte.
+            // Every value and every length is allowed; the library returns for all of them and never unwinds.
+            let number = unsafe {
+                library::$name(
+                    s.width, s.height, s.chroma_format, s.luma_depth, s.chroma_depth,
+                    s.log2_ctb, s.cb_qp_offset, s.cr_qp_offset, s.pcm_loop_filter_disabled,
+                    picture.y.as_ptr(), picture.y.len(),
+                    picture.cb.as_ptr(), picture.cb.len(),
+                    picture.cr.as_ptr(), picture.cr.len(),
+                    picture.cells.as_ptr(), picture.cells.len(),
+                    picture.slices.as_ptr(), picture.slices.len(),
+                    picture.tile_columns.as_ptr(), picture.tile_columns.len(),
+                    picture.tile_rows.as_ptr(), picture.tile_rows.len(),
+                    $($read.as_ptr(), $read.len(),)*
+                    $($write.as_mut_ptr(), $write.len(),)*
+                    $($store,)*
+                    &mut place,
+                )
+            };
+            (number, place)
+        }
+    )*};
+}
+
+of_a_picture! {
+    /// The stage: on 0 the outputs hold the filtered planes, else what they held.
+    fn tinladle_deblock(reads() writes(out_y: u16, out_cb: u16, out_cr: u16) stores());
 }

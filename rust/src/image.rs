@@ -57,8 +57,8 @@ fn marked(before: &View<'_>, after: &View<'_>, x: usize, y: usize) -> [u8; 3] {
     }
 }
 
-/// Writes a PPM (P6) of three parts: the picture before, the picture after, and the moved samples marked: luma red, chroma blue, both
-/// magenta. `finished` holds the planes that the stage left of an accepted picture.
+/// Writes a PPM (P6) of three parts: the picture before, the picture after, and the moved samples marked: luma red,
+/// chroma blue, both magenta. `finished` holds the planes that the stage left of an accepted picture.
 pub fn write_ppm(picture: &Picture<'_>, finished: &PlanesBuf, out: &mut impl Write) -> io::Result<()> {
     let settings = picture.settings;
     let (width, height) = (settings.width as usize, settings.height as usize);

@@ -1,7 +1,7 @@
 //! The HEVC deblocking filter (ITU-T H.265, clause 8.7.2) on one whole picture.
 //!
-//! [`deblock`] is a safe call of the proved C function `tinladle_deblock`: it answers any input with a filtered picture or with one
-//! of ten [refusals](Cause), and filters each tile as if it were a picture alone. The papers of the project call a picture a sheet.
+//! [`deblock`] is a safe call of the proved C function `tinladle_deblock`: it answers any input with a filtered
+//! picture or with one of ten [refusals](Cause), and filters each tile as if it were a picture alone.
 //!
 //! ```
 //! use tinladle::{Bs, Cell, Cells, ChromaFormat, Picture, PlanesBuf, Settings, deblock};
@@ -33,6 +33,22 @@
 //! assert_eq!(refusal.to_string(), "refused 1: width or height is not allowed: width 12");
 //! # Ok::<(), Box<dyn std::error::Error>>(())
 //! ```
+//!
+//! # Which edges are filtered
+//!
+//! Nothing is refused for these rules: an edge that one of them leaves out is silently not filtered, and the picture
+//! comes out different.
+//!
+//! - Edges lie on the multiples of 8 of each plane's own samples. An edge anywhere else is allowed and does nothing.
+//!   A chroma plane with half the columns (4:2:0, 4:2:2) has its vertical edges at luma columns 16, 32 and so on, one
+//!   with half the rows (4:2:0) its horizontal edges at luma rows 16, 32 and so on.
+//! - Four samples along an edge are filtered alike. Where in chroma they span two cells on a side, the first of the
+//!   two gives edge, bS, QP and slice.
+//! - No edge on the picture's border, luma column 0 or row 0, is filtered.
+//! - [`Bs::One`] filters luma alone. Chroma is filtered with [`Bs::Two`].
+//! - No edge between two tiles is filtered. A stream that filters across its tiles
+//!   (`loop_filter_across_tiles_enabled_flag` 1) is passed as one tile: `&[0]` in [`Picture::tile_columns`] and in
+//!   [`Picture::tile_rows`].
 
 // The example in README.md is tested with the others.
 #[cfg(doctest)]
@@ -43,14 +59,17 @@ pub mod container;
 pub mod cut;
 pub mod image;
 
+mod counted;
 mod faults;
 mod ffi;
 mod library;
+mod memory;
 mod picture;
 mod records;
 mod refusal;
 mod settings;
 
+pub use memory::OutOfMemory;
 pub use picture::{Picture, PictureBuf, Planes, PlanesBuf};
 pub use records::{Bs, Cell, Cells, OutOfRange, Slice, Slices};
 pub use refusal::{Cause, Refusal};
@@ -58,8 +77,8 @@ pub use settings::{ChromaFormat, Plane, Settings};
 
 /// Filters a picture: on `Ok` the output planes hold the filtered samples, on a refusal what they held before.
 ///
-/// Every picture is allowed, of any numbers and lengths: the stage makes every check itself. It runs on the caller's thread, allocates
-/// nothing and keeps nothing, so any number of threads may call it on planes of their own.
+/// Every picture is allowed, of any numbers and lengths: the stage makes every check itself. It runs on the caller's
+/// thread, allocates nothing and keeps nothing, so any number of threads may call it on planes of their own.
 ///
 /// Output planes cannot overlap one another or an input, since that does not compile:
 ///
@@ -80,11 +99,7 @@ pub use settings::{ChromaFormat, Plane, Settings};
 /// let _ = deblock(&picture, &mut Planes { y: &mut y, cb: &mut [], cr: &mut [] });
 /// ```
 pub fn deblock(picture: &Picture<'_>, out: &mut Planes<'_>) -> Result<(), Refusal> {
-    let (number, place) = ffi::call(picture, out);
-    if number == 0 {
-        return Ok(());
-    }
-    // The library's contract is that the number is 0 to 10.
-    let cause = Cause::of_number(number).expect("the stage answers with a number from 0 to 10");
-    Err(Refusal::new(cause, place, picture, [out.y.len(), out.cb.len(), out.cr.len()]))
+    let answer = ffi::tinladle_deblock(picture, out.y, out.cb, out.cr);
+    let lengths = [out.y.len(), out.cb.len(), out.cr.len()];
+    Refusal::or_accepted(answer, |cause, place| faults::detail(cause, place, picture, lengths))
 }

@@ -1,38 +1,38 @@
-//! The C function, as include/tinladle.h declares it. speed/ and compare/ take this file too.
+//! The C functions, as include/tinladle.h declares them. speed/ and compare/ take this file too.
 
 #![allow(unsafe_code)]
 
-unsafe extern "C" {
-    pub fn tinladle_deblock(
-        width: u32,
-        height: u32,
-        chroma_format: u32,
-        luma_depth: u32,
-        chroma_depth: u32,
-        log2_ctb: u32,
-        cb_qp_offset: i32,
-        cr_qp_offset: i32,
-        pcm_loop_filter_disabled: bool,
-        y: *const u16,
-        y_len: usize,
-        cb: *const u16,
-        cb_len: usize,
-        cr: *const u16,
-        cr_len: usize,
-        cells: *const u8,
-        cells_len: usize,
-        slices: *const u8,
-        slices_len: usize,
-        tile_columns: *const u16,
-        columns_len: usize,
-        tile_rows: *const u16,
-        rows_len: usize,
+/// Declares functions that take a picture: its nine settings and seven lists, which stand here once, then each one's
+/// own arguments, then the place.
+macro_rules! of_a_picture {
+    ($(fn $name:ident($($own:ident: $type:ty),* $(,)?);)*) => {
+        unsafe extern "C" {
+            $(
+                pub fn $name(
+                    width: u32, height: u32, chroma_format: u32, luma_depth: u32, chroma_depth: u32,
+                    log2_ctb: u32, cb_qp_offset: i32, cr_qp_offset: i32, pcm_loop_filter_disabled: bool,
+                    y: *const u16, y_len: usize,
+                    cb: *const u16, cb_len: usize,
+                    cr: *const u16, cr_len: usize,
+                    cells: *const u8, cells_len: usize,
+                    slices: *const u8, slices_len: usize,
+                    tile_columns: *const u16, columns_len: usize,
+                    tile_rows: *const u16, rows_len: usize,
+                    $($own: $type,)*
+                    place: *mut u64,
+                ) -> u32;
+            )*
+        }
+    };
+}
+
+of_a_picture! {
+    fn tinladle_deblock(
         out_y: *mut u16,
         out_y_len: usize,
         out_cb: *mut u16,
         out_cb_len: usize,
         out_cr: *mut u16,
         out_cr_len: usize,
-        place: *mut u64,
-    ) -> u32;
+    );
 }

@@ -1,5 +1,6 @@
 //! A picture as the stage is lent it, and the planes that the stage writes.
 
+use crate::memory::{OutOfMemory, filled};
 use crate::settings::{Plane, Settings};
 
 /// A picture of borrowed lists. It is only read.
@@ -15,11 +16,18 @@ pub struct Picture<'a> {
     pub cr: &'a [u16],
     /// The cell records, 8 bytes each: [`Cells::as_bytes`](crate::Cells::as_bytes).
     pub cells: &'a [u8],
-    /// The slice records, 4 bytes each: [`Slices::as_bytes`](crate::Slices::as_bytes). None stands for one default slice.
+    /// The slice records, 4 bytes each: [`Slices::as_bytes`](crate::Slices::as_bytes). None stands for one slice,
+    /// [`Slice::new`](crate::Slice::new).
     pub slices: &'a [u8],
-    /// The first CTB column of each tile column, 1 to 20 of them: 0, then rising. `&[0]` is one tile.
+    /// The first CTB column of each tile column, 1 to 20 of them: 0, then rising.
+    ///
+    /// **No edge between two tiles is filtered.** A stream that filters across its tiles
+    /// (`loop_filter_across_tiles_enabled_flag` 1) is passed as one tile: `&[0]` here and in `tile_rows`.
     pub tile_columns: &'a [u16],
-    /// The first CTB row of each tile row, 1 to 22 of them: 0, then rising. `&[0]` is one tile.
+    /// The first CTB row of each tile row, 1 to 22 of them: 0, then rising.
+    ///
+    /// **No edge between two tiles is filtered**: of a stream that filters across its tiles this is `&[0]`, as
+    /// `tile_columns` is.
     pub tile_rows: &'a [u16],
 }
 
@@ -95,10 +103,17 @@ pub struct PlanesBuf {
 }
 
 impl PlanesBuf {
-    /// Planes of these lengths that hold one value throughout.
+    /// Planes of these lengths that hold one value throughout. Where there is not enough memory the program ends, as
+    /// with `vec!`; [`PlanesBuf::try_filled`] tells.
     pub fn filled(lengths: [usize; 3], value: u16) -> Self {
         let [y, cb, cr] = lengths.map(|length| vec![value; length]);
         PlanesBuf { y, cb, cr }
+    }
+
+    /// The same, or that there is not enough memory, whatever the lengths.
+    pub fn try_filled(lengths: [usize; 3], value: u16) -> Result<Self, OutOfMemory> {
+        let [y, cb, cr] = lengths;
+        Ok(PlanesBuf { y: filled(y, value)?, cb: filled(cb, value)?, cr: filled(cr, value)? })
     }
 
     /// The planes, lent to the stage.

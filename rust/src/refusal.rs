@@ -3,56 +3,56 @@
 use std::error::Error;
 use std::fmt;
 
-use crate::faults;
-use crate::picture::Picture;
+/// The causes with their numbers and, from the same rows, the list of them all. A new cause is a row here; the
+/// compiler then asks for its words.
+macro_rules! causes {
+    ($($(#[$note:meta])* $name:ident = $number:literal,)*) => {
+        /// The causes of a refusal, in the order in which the stage looks for them. Each has its own number.
+        #[derive(Clone, Copy, Debug, PartialEq, Eq, Hash, PartialOrd, Ord)]
+        #[repr(u32)]
+        #[non_exhaustive]
+        pub enum Cause {
+            $($(#[$note])* $name = $number,)*
+        }
 
-/// The ten causes of a refusal, in the order in which the stage looks for them.
-#[derive(Clone, Copy, Debug, PartialEq, Eq, Hash, PartialOrd, Ord)]
-pub enum Cause {
+        impl Cause {
+            const ALL: &[Cause] = &[$(Cause::$name,)*];
+        }
+    };
+}
+
+causes! {
     /// 1: width or height not allowed.
-    Size,
+    Size = 1,
     /// 2: the chroma format is above 3.
-    ChromaFormat,
+    ChromaFormat = 2,
     /// 3: a depth outside 8 to 16.
-    Depth,
+    Depth = 3,
     /// 4: log2 of the CTB size outside 4 to 6.
-    CtbSize,
+    CtbSize = 4,
     /// 5: a chroma offset outside -12 to 12.
-    ChromaOffset,
+    ChromaOffset = 5,
     /// 6: a plane or list not of its length.
-    Length,
+    Length = 6,
     /// 7: a slice out of range; the place is the first such slice.
-    Slice,
+    Slice = 7,
     /// 8: a tile start out of rule; the place is the first such entry, the rows numbered on after the columns.
-    TileStart,
+    TileStart = 8,
     /// 9: a cell out of range, or its slice not in the list; the place is the first such cell.
-    Cell,
+    Cell = 9,
     /// 10: an original sample above its largest; the place is the first such, counted through Y, Cb, Cr.
-    Sample,
+    Sample = 10,
 }
 
 impl Cause {
-    const ALL: [Cause; 10] = [
-        Cause::Size,
-        Cause::ChromaFormat,
-        Cause::Depth,
-        Cause::CtbSize,
-        Cause::ChromaOffset,
-        Cause::Length,
-        Cause::Slice,
-        Cause::TileStart,
-        Cause::Cell,
-        Cause::Sample,
-    ];
-
-    /// The refusal's number, 1 to 10.
-    pub fn number(self) -> u32 {
-        self as u32 + 1
+    /// The refusal's number.
+    pub const fn number(self) -> u32 {
+        self as u32
     }
 
     /// The cause of a number; `None` where there is no such refusal.
     pub fn of_number(number: u32) -> Option<Cause> {
-        Cause::ALL.into_iter().find(|cause| cause.number() == number)
+        Cause::ALL.iter().copied().find(|cause| cause.number() == number)
     }
 }
 
@@ -67,12 +67,17 @@ pub struct Refusal {
 }
 
 impl Refusal {
-    pub(crate) fn new(cause: Cause, place: u64, picture: &Picture<'_>, out_lengths: [usize; 3]) -> Self {
-        let detail = faults::detail(cause, place, picture, out_lengths);
-        Refusal { cause, place, detail }
+    /// A C function's answer, number and place: 0 is acceptance. Of a refusal the words are asked for.
+    pub(crate) fn or_accepted(answer: (u32, u64), words: impl FnOnce(Cause, u64) -> String) -> Result<(), Self> {
+        let (number, place) = answer;
+        if number == 0 {
+            return Ok(());
+        }
+        let cause = Cause::of_number(number).expect("the library answers 0 or a cause's number: its contract");
+        Err(Refusal { cause, place, detail: words(cause, place) })
     }
 
-    /// 1 to 10.
+    /// The cause's number; of [`deblock`](crate::deblock) 1 to 10.
     pub fn number(&self) -> u32 {
         self.cause.number()
     }

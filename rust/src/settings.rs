@@ -77,6 +77,9 @@ pub struct Settings {
 }
 
 impl Settings {
+    /// The largest width and the largest height that a picture can have.
+    pub const LARGEST: u32 = 8192;
+
     /// Depth 8, CTBs of 16 by 16, offsets 0, the PCM switch off.
     pub const fn new(width: u32, height: u32, format: ChromaFormat) -> Self {
         Settings {

@@ -41,13 +41,14 @@ fn bad_files_get_one_line() {
         ("missing.pic", "cannot be read: No such file or directory (os error 2)"),
     ];
     for (file, why) in cases {
-        for words in [&["check", file][..], &["tiles", file], &["deblock", file, "out"], &["picture", file, "out"]] {
+        for words in [&["check", file][..], &["tiles", file], &["deblock", file, "out"], &["picture", file, "out.ppm"]]
+        {
             let ran = tinladle(&at, words);
             assert_eq!((ran.status, ran.out.as_str()), (2, ""), "{words:?}");
             assert_eq!(ran.err, format!("tinladle: {file}: {why}\n"), "{words:?}");
         }
     }
-    assert!(!at.join("out").exists());
+    assert!(!at.join("out").exists() && !at.join("out.ppm").exists());
 }
 
 #[test]
@@ -120,6 +121,11 @@ fn diff_counts_by_tile_and_plane() {
         "",
     ];
     assert_eq!(ran.out, wanted.join("\n"));
+    let mut other = s1();
+    other.planes.y[0] += 1;
+    store(&at.join("b.pic"), other);
+    let ran = tinladle(&at, &["diff", "a.pic", "b.pic"]);
+    assert_eq!((ran.status, ran.out.lines().next()), (1, Some("a.pic and b.pic: 1 sample differs")));
 }
 
 #[test]
@@ -156,9 +162,10 @@ fn tiles_says_0_for_each() {
 #[test]
 fn picture_has_three_parts() {
     let at = folder("picture");
-    for (number, format) in [ChromaFormat::Monochrome, ChromaFormat::Yuv420, ChromaFormat::Yuv422, ChromaFormat::Yuv444]
-        .into_iter()
-        .enumerate()
+    for (number, format) in
+        [ChromaFormat::Monochrome, ChromaFormat::Yuv420, ChromaFormat::Yuv422, ChromaFormat::Yuv444]
+            .into_iter()
+            .enumerate()
     {
         let mut picture = flat(Settings::new(16, 8, format), edges(37));
         picture.planes.y = samples(16, 8, |x, _| if x < 8 { 100 } else { 104 });

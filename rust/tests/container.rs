@@ -88,7 +88,10 @@ fn one_byte_short_and_one_byte_long() {
     assert_eq!(whole.len(), 248);
     assert_eq!(read(&whole[..247]).unwrap_err(), "too short: 247 bytes, and its head asks for 248");
     whole.push(0);
-    assert_eq!(read(&whole).unwrap_err(), "too long: 1 bytes after the picture");
+    assert_eq!(read(&whole).unwrap_err(), "too long: 1 byte after the picture");
+    whole.push(0);
+    assert_eq!(read(&whole).unwrap_err(), "too long: 2 bytes after the picture");
+    assert_eq!(read(&whole[..1]).unwrap_err(), "too short: 1 byte, and the head has 80");
 }
 
 #[test]

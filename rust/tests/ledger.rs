@@ -32,6 +32,26 @@ fn what_is_right_is_accepted() {
 }
 
 #[test]
+fn each_cause_has_the_number_of_its_row() {
+    let rows = [
+        (1, Cause::Size),
+        (2, Cause::ChromaFormat),
+        (3, Cause::Depth),
+        (4, Cause::CtbSize),
+        (5, Cause::ChromaOffset),
+        (6, Cause::Length),
+        (7, Cause::Slice),
+        (8, Cause::TileStart),
+        (9, Cause::Cell),
+        (10, Cause::Sample),
+    ];
+    for (number, cause) in rows {
+        assert_eq!((cause.number(), Cause::of_number(number)), (number, Some(cause)));
+    }
+    assert_eq!((Cause::of_number(0), Cause::of_number(11)), (None, None));
+}
+
+#[test]
 fn row_1_width_12() {
     let picture = with(small(), |p| p.settings.width = 12);
     refused(&picture, 1, 0, "refused 1: width or height is not allowed: width 12");
@@ -76,7 +96,10 @@ fn row_6_63_luma_samples() {
 #[test]
 fn row_6_the_other_lists() {
     const SAYS: &str = "refused 6: a plane or list is not of its length";
-    let cases: [(PictureBuf, &str); 7] = [
+    let cases: [(PictureBuf, &str); 10] = [
+        (with(colour(), |p| p.planes.cb.truncate(1)), "Cb has 1 sample, not 32"),
+        (with(colour(), |p| p.cells.truncate(1)), "the cells have 1 byte, not 64"),
+        (with(colour(), |p| p.slices = vec![0]), "the slices have 1 byte, not a multiple of 4"),
         (with(colour(), |p| p.planes.cr.push(0)), "Cr has 33 samples, not 32"),
         (with(colour(), |p| p.cells.truncate(63)), "the cells have 63 bytes, not 64"),
         (with(colour(), |p| p.slices = vec![0; 6]), "the slices have 6 bytes, not a multiple of 4"),
@@ -156,7 +179,12 @@ fn row_10_y_sample_5_is_256() {
     refused(&picture, 10, 5, "refused 10: sample 5 is above its largest: Y sample 5 is 256, the largest is 255");
     // Counted through Y, Cb, Cr.
     let picture = with(colour(), |p| p.planes.cr[7] = 65535);
-    refused(&picture, 10, 167, "refused 10: sample 167 is above its largest: Cr sample 7 is 65535, the largest is 255");
+    refused(
+        &picture,
+        10,
+        167,
+        "refused 10: sample 167 is above its largest: Cr sample 7 is 65535, the largest is 255",
+    );
 }
 
 /// A change that makes a picture refused, and the place of the refusal.
@@ -191,7 +219,6 @@ fn the_first_cause_counts() {
         assert_eq!(Cause::of_number(refusal.number()), Some(refusal.cause()));
         assert!(!refusal.detail().is_empty());
     }
-    assert_eq!((Cause::of_number(0), Cause::of_number(11)), (None, None));
 }
 
 #[test]

@@ -1,12 +1,11 @@
-//! What the tool writes and where: never over an input, whole or not at all, and to standard output.
+//! The files that the tool writes and where: never over an input, whole or not at all.
 
 mod common;
 
-use std::fs::{self, File};
-use std::io;
+use std::fs;
 use std::os::unix::fs::{PermissionsExt, symlink};
 
-use common::tool::{Ran, command, folder, load, refused, s1, s1_filtered, store, tinladle};
+use common::tool::{folder, load, refused, s1, s1_filtered, store, tinladle};
 
 #[test]
 fn a_refusal_leaves_the_output_alone() {
@@ -90,6 +89,63 @@ fn a_link_stays_and_no_device_is_replaced() {
 }
 
 #[test]
+fn a_hard_link_to_an_input_or_another_output_is_refused() {
+    let at = folder("hard");
+    for name in ["a.pic", "b.pic"] {
+        store(&at.join(name), s1());
+    }
+    fs::create_dir(at.join("out")).unwrap();
+    for (file, link) in [("a.pic", "same.pic"), ("a.pic", "same.ppm"), ("a.pic", "out/b.pic")] {
+        fs::hard_link(at.join(file), at.join(link)).unwrap();
+    }
+    symlink("same.pic", at.join("link.pic")).unwrap();
+    let cases: [(&[&str], &str); 4] = [
+        (&["deblock", "a.pic", "same.pic"], "same.pic"),
+        (&["deblock", "a.pic", "link.pic"], "link.pic"),
+        (&["picture", "a.pic", "same.ppm"], "same.ppm"),
+        // What is made of b.pic would replace the file that is a.pic's.
+        (&["deblock", "--to", "out", "b.pic", "a.pic"], "out/b.pic"),
+    ];
+    for (words, output) in cases {
+        let ran = tinladle(&at, words);
+        let why = format!("tinladle: {output}: the output is also an input; nothing was done\n");
+        assert_eq!((ran.status, ran.out, ran.err), (2, String::new(), why), "{words:?}");
+    }
+    // Two outputs that are one file.
+    fs::remove_file(at.join("out/b.pic")).unwrap();
+    fs::write(at.join("out/a.pic"), "old").unwrap();
+    fs::hard_link(at.join("out/a.pic"), at.join("out/b.pic")).unwrap();
+    let ran = tinladle(&at, &["deblock", "--to", "out", "a.pic", "b.pic"]);
+    let why = "tinladle: out/b.pic: the output is also another output; nothing was done\n";
+    assert_eq!((ran.status, ran.err.as_str()), (2, why));
+    for name in ["a.pic", "b.pic", "same.pic", "same.ppm"] {
+        assert_eq!(load(&at.join(name)), s1(), "{name}");
+    }
+    assert_eq!(fs::read_to_string(at.join("out/a.pic")).unwrap(), "old");
+    // A hard link to neither is replaced, and what else it linked to stays.
+    assert_eq!(tinladle(&at, &["deblock", "a.pic", "out/b.pic"]).status, 0);
+    assert_eq!(load(&at.join("out/b.pic")), s1_filtered());
+    assert_eq!(fs::read_to_string(at.join("out/a.pic")).unwrap(), "old");
+}
+
+#[test]
+fn a_ppm_is_called_a_ppm() {
+    let at = folder("kind");
+    store(&at.join("a.pic"), s1());
+    for output in ["a.png", "a", "ppm", "a.ppm.png", "a.ppm~"] {
+        let ran = tinladle(&at, &["picture", "a.pic", output]);
+        let why =
+            format!("tinladle: {output}: the output is a PPM, and its name must end in .ppm; nothing was done\n");
+        assert_eq!((ran.status, ran.out, ran.err), (2, String::new(), why));
+    }
+    assert_eq!(fs::read_dir(&at).unwrap().count(), 1);
+    for output in ["a.ppm", "b.PPM", "c.png.ppm"] {
+        assert_eq!(tinladle(&at, &["picture", "a.pic", output]).status, 0);
+        assert!(fs::read(at.join(output)).unwrap().starts_with(b"P6\n"));
+    }
+}
+
+#[test]
 fn a_link_that_leads_nowhere_is_refused() {
     let at = folder("nowhere");
     store(&at.join("a.pic"), s1());
@@ -113,20 +169,20 @@ fn a_link_that_leads_nowhere_is_refused() {
 fn a_write_protected_file_is_not_replaced() {
     let at = folder("protected");
     store(&at.join("a.pic"), s1());
-    fs::write(at.join("b.pic"), "kept").unwrap();
-    symlink("b.pic", at.join("link.pic")).unwrap();
-    let set = |mode| fs::set_permissions(at.join("b.pic"), fs::Permissions::from_mode(mode)).unwrap();
+    fs::write(at.join("b.ppm"), "kept").unwrap();
+    symlink("b.ppm", at.join("link.pic")).unwrap();
+    let set = |mode| fs::set_permissions(at.join("b.ppm"), fs::Permissions::from_mode(mode)).unwrap();
     set(0o444);
-    for (command, output) in [("deblock", "b.pic"), ("picture", "b.pic"), ("deblock", "link.pic")] {
+    for (command, output) in [("deblock", "b.ppm"), ("picture", "b.ppm"), ("deblock", "link.pic")] {
         let ran = tinladle(&at, &[command, "a.pic", output]);
         let why = format!("tinladle: {output}: cannot be written: it is write-protected\n");
         assert_eq!((ran.status, ran.out, ran.err), (2, String::new(), why));
-        assert_eq!(fs::read_to_string(at.join("b.pic")).unwrap(), "kept");
+        assert_eq!(fs::read_to_string(at.join("b.ppm")).unwrap(), "kept");
     }
     set(0o640);
-    assert_eq!(tinladle(&at, &["deblock", "a.pic", "b.pic"]).status, 0);
-    assert_eq!(load(&at.join("b.pic")), s1_filtered());
-    assert_eq!(fs::metadata(at.join("b.pic")).unwrap().permissions().mode() & 0o777, 0o640, "the mode stays");
+    assert_eq!(tinladle(&at, &["deblock", "a.pic", "b.ppm"]).status, 0);
+    assert_eq!(load(&at.join("b.ppm")), s1_filtered());
+    assert_eq!(fs::metadata(at.join("b.ppm")).unwrap().permissions().mode() & 0o777, 0o640, "the mode stays");
 }
 
 #[test]
@@ -140,29 +196,4 @@ fn a_name_may_be_as_long_as_names_can_be() {
         assert_eq!(load(&at.join(name)), s1_filtered());
     }
     assert_eq!(fs::read_dir(&at).unwrap().count(), 4);
-}
-
-#[cfg(target_os = "linux")]
-#[test]
-fn a_full_standard_output_is_told_once() {
-    let at = folder("full");
-    store(&at.join("a.pic"), s1());
-    for words in [&["--help"][..], &["--version"], &["check", "a.pic"], &["check", "a.pic", "a.pic", "a.pic"]] {
-        let full = File::options().write(true).open("/dev/full").unwrap();
-        let ran = Ran::from(command(&at, words).stdout(full).output().unwrap());
-        let why = "tinladle: standard output: cannot be written: No space left on device (os error 28)\n";
-        assert_eq!((ran.status, ran.err.as_str()), (2, why), "{words:?}");
-    }
-}
-
-#[test]
-fn a_reader_that_has_gone_is_told_nothing() {
-    let at = folder("gone");
-    store(&at.join("a.pic"), s1());
-    for words in [["check", "a.pic"], ["--help", "--help"]] {
-        let (reader, writer) = io::pipe().unwrap();
-        drop(reader);
-        let ran = Ran::from(command(&at, &words).stdout(writer).output().unwrap());
-        assert_eq!((ran.status, ran.err.as_str()), (2, ""), "{words:?}");
-    }
 }

@@ -1,6 +1,6 @@
 //! The typed records against the bytes of document 01.
 
-use tinladle::{Bs, Cell, Cells, ChromaFormat, Settings, Slice, Slices};
+use tinladle::{Bs, Cell, Cells, ChromaFormat, Picture, PlanesBuf, Settings, Slice, Slices, deblock};
 
 #[test]
 fn each_part_of_a_cell_has_its_byte() {
@@ -56,6 +56,37 @@ fn cells_lie_row_by_row() {
     cells.set(3, 1, Cell::new(1).unwrap());
     let qps: Vec<u8> = cells.as_bytes().chunks(8).map(|cell| cell[0]).collect();
     assert_eq!(qps, [64, 64, 64, 64, 64, 64, 64, 65]);
+}
+
+#[test]
+fn no_settings_ask_for_more_cells_than_a_picture_can_have() {
+    let most = Settings::LARGEST;
+    assert_eq!(most, 8192);
+    for (width, height) in [(u32::MAX, u32::MAX), (u32::MAX - 7, 8), (8, 1 << 31), (most + 8, 8), (8, most + 1)] {
+        let settings = Settings::new(width, height, ChromaFormat::Monochrome);
+        let cells = Cells::filled(&settings, Cell::new(0).unwrap());
+        assert_eq!((cells.columns(), cells.rows(), cells.as_bytes().len()), (0, 0, 0), "{width} by {height}");
+        let (starts, y): (&[u16], &[u16]) = (&[0], &[0; 64]);
+        let picture = Picture {
+            settings,
+            y,
+            cb: &[],
+            cr: &[],
+            cells: cells.as_bytes(),
+            slices: &[],
+            tile_columns: starts,
+            tile_rows: starts,
+        };
+        let refusal = deblock(&picture, &mut PlanesBuf::filled([64, 0, 0], 0).planes()).unwrap_err();
+        assert_eq!((refusal.number(), refusal.place()), (1, 0), "{width} by {height}");
+    }
+    let largest = Cells::filled(&Settings::new(most, most, ChromaFormat::Monochrome), Cell::new(0).unwrap());
+    assert_eq!((largest.columns(), largest.rows(), largest.as_bytes().len()), (2048, 2048, 8 * 2048 * 2048));
+    // Small sizes have whole cells even where no picture has them.
+    for (width, height, columns, rows) in [(0, 8, 0, 0), (12, 8, 3, 2), (10, 3, 2, 0)] {
+        let cells = Cells::filled(&Settings::new(width, height, ChromaFormat::Monochrome), Cell::new(0).unwrap());
+        assert_eq!((cells.columns(), cells.rows()), (columns, rows), "{width} by {height}");
+    }
 }
 
 #[test]

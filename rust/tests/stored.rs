@@ -1,9 +1,10 @@
-//! The stored pictures of the repository, replayed through the Rust API. The expected lines are those of oracle/README.md: planes from
-//! the customer's Rust and, for the real pictures, from another decoder; numbers and places from document 01.
+//! The stored pictures of the repository, replayed through the Rust API. The expected lines are those of
+//! oracle/README.md: planes from the customer's Rust and, for the real pictures, from another decoder; numbers and
+//! places from document 01.
 
 mod common;
 
-use common::stored::{checksums, expected, records};
+use common::stored::{expected, fingerprints, records};
 use common::{JUNK, run_into};
 use tinladle::PlanesBuf;
 use tinladle::container::StoredPicture;
@@ -16,7 +17,7 @@ fn line(number: usize, stored: &StoredPicture) -> String {
             ((refusal.number(), refusal.place()), PlanesBuf::filled(stored.output_lengths, JUNK))
         }
     };
-    format!("{number} {} {} {}\n", answer.0, answer.1, checksums(planes.samples()))
+    format!("{number} {} {} {}\n", answer.0, answer.1, fingerprints(planes.samples()))
 }
 
 /// What the Rattle program of that name prints, by way of this crate.

@@ -1,11 +1,12 @@
-//! crates/tile_cases, replayed through the Rust API: every tile of the stored pictures, within its picture and cut out. The expected
-//! lines are those of oracle/README.md: a tile's samples were taken out of the planes that the customer's Rust left of the picture.
+//! crates/tile_cases, replayed through the Rust API: every tile of the stored pictures, within its picture and cut
+//! out. The expected lines are those of oracle/README.md: a tile's samples were taken out of the planes that the
+//! customer's Rust left of the picture.
 
 mod common;
 
 use std::collections::{BTreeMap, BTreeSet};
 
-use common::stored::{checksums, expected, records};
+use common::stored::{expected, fingerprints, records};
 use common::{run, run_into};
 use tinladle::container::StoredPicture;
 use tinladle::cut::{Tile, apart, cut, tiles};
@@ -14,7 +15,8 @@ use tinladle::{PlanesBuf, Refusal, Settings};
 /// A tile column, a tile row, and the answer there.
 type Line = (usize, usize, String);
 
-/// The lines of each record. Those of lists that a caller lends (LIST above 0) are left out: this crate makes the cut's lists itself.
+/// The lines of each record. Those of lists that a caller lends (LIST above 0) are left out: this crate makes the
+/// cut's lists itself.
 fn lines() -> BTreeMap<usize, Vec<Line>> {
     let mut found: BTreeMap<usize, Vec<Line>> = BTreeMap::new();
     for line in expected("tile_cases").lines().filter(|&line| line != "short") {
@@ -42,13 +44,13 @@ fn crop(s: &Settings, tile: &Tile, planes: &PlanesBuf) -> [Vec<u16>; 3] {
     [part(&planes.y, 1, 1), part(&planes.cb, across, down), part(&planes.cr, across, down)]
 }
 
-/// The answer for a tile: the checksums of its finished samples, which must be the same when it is filtered alone.
+/// The answer for a tile: the fingerprints of its finished samples, which must be the same when it is filtered alone.
 fn differing(stored: &StoredPicture, finished: &PlanesBuf, tile: &Tile) -> String {
     let picture = stored.picture.picture();
     let [y, cb, cr] = crop(&picture.settings, tile, finished);
-    let within = checksums([&y, &cb, &cr]);
+    let within = fingerprints([&y, &cb, &cr]);
     let alone = run(&cut(&picture, tile).unwrap()).unwrap();
-    assert_eq!(checksums(alone.samples()), within, "{tile:?}");
+    assert_eq!(fingerprints(alone.samples()), within, "{tile:?}");
     format!("differing {} {within}", apart(&picture, finished, tile).unwrap())
 }
 

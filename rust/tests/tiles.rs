@@ -3,10 +3,11 @@
 mod common;
 
 use common::{colour, edges, flat, run, samples};
-use tinladle::cut::{Tile, apart, cut, differing, tiles};
+use tinladle::cut::{CutError, Tile, apart, cut, differing, tiles};
 use tinladle::{Cells, ChromaFormat, PictureBuf, Settings};
 
-/// 40 by 24, CTB 16, columns 0, 1, 2 and rows 0, 1: the last tiles are half a CTB. Every sample is another than its neighbours.
+/// 40 by 24, CTB 16, columns 0, 1, 2 and rows 0, 1: the last tiles are half a CTB. Every sample is another than its
+/// neighbours.
 fn tiled(format: ChromaFormat) -> PictureBuf {
     let mut picture = flat(Settings::new(40, 24, format), edges(43));
     let noise = |x: usize, y: usize| 100 + ((x * 7 + y * 13 + (x / 8) * 5 + (y / 8) * 3) % 11) as u16;
@@ -91,5 +92,23 @@ fn samples_are_counted_in_their_tile_and_plane() {
 #[test]
 fn a_tile_outside_the_picture_is_no_cut() {
     let tile = Tile { column: 0, row: 0, x: 8, y: 8, width: 16, height: 16 };
-    assert!(cut(&colour().picture(), &tile).is_none());
+    let picture = colour();
+    assert_eq!(cut(&picture.picture(), &tile), Err(CutError::NoTile));
+    assert_eq!(apart(&picture.picture(), &picture.planes, &tile), Err(CutError::NoTile));
+    // Numbers at the ends of their types, where a careless sum or product would wrap.
+    let far = Tile { x: u32::MAX, y: u32::MAX, width: u32::MAX, height: u32::MAX, ..tile };
+    let mut wide = colour();
+    (wide.settings.width, wide.settings.height) = (u32::MAX, u32::MAX);
+    for picture in [colour(), wide] {
+        assert_eq!(cut(&picture.picture(), &far), Err(CutError::NoTile));
+    }
+}
+
+#[test]
+fn a_cut_may_be_refused() {
+    // Four columns are no picture. The tiles of an accepted picture are never so.
+    let tile = Tile { column: 0, row: 0, x: 0, y: 0, width: 4, height: 8 };
+    let picture = colour();
+    let error = apart(&picture.picture(), &picture.planes, &tile).unwrap_err();
+    assert_eq!(error.to_string(), "refused 1: width or height is not allowed: width 4");
 }

@@ -11,30 +11,75 @@ use common::tool::{folder, load, s1, s1_filtered, store, tinladle};
 #[test]
 fn help_and_version() {
     let at = folder("help");
-    for words in [&["--help"][..], &["-h"], &["help"], &["deblock", "--help"], &["check", "x", "-h"]] {
+    let text = tinladle(&at, &["--help"]).out;
+    for words in
+        [&["-h"][..], &["help"], &["deblock", "--help"], &["check", "x", "-h"], &["-h", "--jobs", "2", "diff"]]
+    {
         let ran = tinladle(&at, words);
-        assert_eq!((ran.status, ran.out.as_str()), (0, include_str!("../src/cli/help.txt")), "{words:?}");
+        assert_eq!((ran.status, &ran.out, ran.err.as_str()), (0, &text, ""), "{words:?}");
     }
-    let ran = tinladle(&at, &["--version"]);
-    assert_eq!((ran.status, ran.out.as_str(), ran.err.as_str()), (0, "tinladle 0.1.0\n", ""));
+    for words in [&["--version"][..], &["check", "--version"]] {
+        let ran = tinladle(&at, words);
+        assert_eq!((ran.status, ran.out.as_str(), ran.err.as_str()), (0, "tinladle 0.1.0\n", ""));
+    }
+}
+
+/// The verb, how many arguments its line in the help has, and whether the last stands for more.
+fn line_of_help(line: &str) -> Option<(&str, usize, bool)> {
+    let mut words = line.strip_prefix("  tinladle ")?.split("  ").next()?.split(' ');
+    let verb = words.next().filter(|verb| !verb.starts_with('-'))?;
+    let arguments: Vec<&str> = words.collect();
+    Some((verb, arguments.len(), arguments.last()?.ends_with("...")))
+}
+
+#[test]
+fn each_line_of_the_help_is_what_the_verb_takes() {
+    let at = folder("lines");
+    let help = tinladle(&at, &["--help"]).out;
+    let lines: Vec<_> = help.lines().filter_map(line_of_help).collect();
+    assert_eq!(
+        lines.iter().map(|line| line.0).collect::<Vec<_>>(),
+        ["deblock", "deblock", "check", "diff", "picture", "tiles"]
+    );
+    // Of the form with --to its option and value are among the words; the other forms have files alone.
+    for (verb, count, more) in lines.into_iter().filter(|&(verb, count, _)| (verb, count) != ("deblock", 3)) {
+        for given in 0..5 {
+            let files = ["none.ppm", "none.ppm", "none.ppm", "none.ppm"];
+            let ran = tinladle(&at, &[&[verb][..], &files[..given]].concat());
+            let usage = ran.err.contains("--help lists the commands");
+            assert_eq!(
+                (ran.status, usage),
+                (2, given < count || (given > count && !more)),
+                "{verb} {given}: {}",
+                ran.err
+            );
+        }
+    }
 }
 
 const BAD: &[(&[&str], &str)] = &[
     (&[], "no command"),
     (&["smooth"], "unknown command smooth"),
-    (&["check"], "check needs a file"),
+    (&["--jobs", "2"], "no command"),
+    (&["--jobs", "2", "smooth", "a"], "unknown command smooth"),
+    (&[""], "unknown command "),
+    (&["check"], "check takes IN..., and nothing was given"),
     (&["check", "--fast", "a"], "unknown option --fast"),
     (&["check", "--help=a"], "unknown option --help=a"),
     (&["check", "--=a"], "unknown option --=a"),
     (&["check", "a", "--jobs"], "--jobs needs a number"),
     (&["check", "a", "--jobs", "0"], "--jobs 0: not a number from 1 to 256"),
     (&["check", "a", "--jobs=257"], "--jobs 257: not a number from 1 to 256"),
-    (&["check", "a", "--jobs="], "--jobs : not a number from 1 to 256"),
+    (&["check", "a", "--jobs="], "--jobs needs a number"),
+    (&["--jobs", "check", "a"], "--jobs check: not a number from 1 to 256"),
     (&["check", "--jobs", "2", "a", "--jobs=2"], "--jobs is given twice"),
     (&["check", "a", "--to", "b"], "check takes no --to"),
     (&["diff", "a", "b", "--jobs", "2"], "diff takes no --jobs"),
-    (&["deblock", "a"], "deblock takes two files, IN OUT (or --to DIR IN...), and 1 were given"),
-    (&["diff", "a", "b", "c"], "diff takes two files, A B, and 3 were given"),
+    (&["--to", "b", "diff", "a", "b"], "diff takes no --to"),
+    (&["deblock", "a"], "deblock takes IN OUT or --to DIR IN..., and 1 argument was given"),
+    (&["deblock", "a", "b", "c"], "deblock takes IN OUT or --to DIR IN..., and 3 arguments were given"),
+    (&["deblock", "--to", "a"], "deblock takes IN OUT or --to DIR IN..., and nothing was given"),
+    (&["diff", "a", "b", "c"], "diff takes A B, and 3 arguments were given"),
     (&["deblock", "--to"], "--to needs a folder"),
     (&["deblock", "--to=", "a"], "--to needs a folder"),
     (&["deblock", "--to", "b", "--to", "c", "a"], "--to is given twice"),
@@ -69,11 +114,30 @@ fn a_value_may_stand_behind_an_equals_sign() {
 }
 
 #[test]
-fn after_two_dashes_all_are_files() {
+fn after_two_dashes_nothing_is_an_option() {
     let at = folder("dashes");
     for name in ["-a.pic", "--jobs=2"] {
         store(&at.join(name), s1());
     }
-    let ran = tinladle(&at, &["check", "--", "-a.pic", "--jobs=2"]);
-    assert_eq!((ran.status, ran.out.as_str()), (0, "-a.pic: accepted\n--jobs=2: accepted\n"));
+    for words in [&["check", "--", "-a.pic", "--jobs=2"][..], &["--jobs", "2", "--", "check", "-a.pic", "--jobs=2"]] {
+        let ran = tinladle(&at, words);
+        assert_eq!((ran.status, ran.out.as_str()), (0, "-a.pic: accepted\n--jobs=2: accepted\n"), "{words:?}");
+    }
+}
+
+#[test]
+fn options_stand_anywhere() {
+    let at = folder("anywhere");
+    store(&at.join("a.pic"), s1());
+    for words in [
+        ["--jobs", "2", "deblock", "--to", "out", "a.pic"],
+        ["--to", "out", "deblock", "a.pic", "--jobs", "2"],
+        ["--jobs", "2", "--to", "out", "deblock", "a.pic"],
+        ["deblock", "--jobs", "2", "a.pic", "--to", "out"],
+    ] {
+        let ran = tinladle(&at, &words);
+        assert_eq!((ran.status, ran.err.as_str()), (0, ""), "{words:?}");
+        assert_eq!(load(&at.join("out/a.pic")), s1_filtered());
+        fs::remove_dir_all(at.join("out")).unwrap();
+    }
 }

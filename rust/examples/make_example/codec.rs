@@ -1,5 +1,6 @@
-//! What a coder leaves of a block at a coarse quantizer: the 8 by 8 transform of HEVC, each coefficient rounded to a multiple of the
-//! step, and the transform back. No prediction; blocks know nothing of each other, which is why their borders show.
+//! What a coder leaves of a block at a coarse quantizer: the 8 by 8 transform of HEVC, each coefficient rounded to a
+//! multiple of the step, and the transform back. No prediction; blocks know nothing of each other, which is why their
+//! borders show.
 
 /// The rows of the transform; each has length 2^7.5, up to rounding.
 const TRANSFORM: [[i64; 8]; 8] = [

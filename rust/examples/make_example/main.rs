@@ -1,7 +1,7 @@
 //! Makes the shipped example, examples/example.pic: `cargo run --example make_example -- ../examples/example.pic`
 //!
-//! Four coupons, one to a tile, drawn by scene.rs and coarsely coded by codec.rs, so that there are block borders to smooth. Whole
-//! numbers throughout: every machine makes the same bytes.
+//! Four coupons, one to a tile, drawn by scene.rs and coarsely coded by codec.rs, so that there are block borders to
+//! smooth. Whole numbers throughout: every machine makes the same bytes.
 
 mod codec;
 mod scene;
@@ -64,7 +64,8 @@ fn plane(settings: &Settings, plane: Plane) -> Vec<u16> {
     samples
 }
 
-/// The third coupon is filtered more strongly; the lower half of the fourth not at all, and its upper half not across its border.
+/// The third coupon is filtered more strongly; the lower half of the fourth not at all, and its upper half not across
+/// its border.
 fn slices() -> Result<Slices, OutOfRange> {
     let mut slices = Slices::new();
     slices.push(Slice::new())?;

@@ -8,7 +8,8 @@ pub const COUPON_HEIGHT: usize = 64;
 /// Colours are Y, Cb, Cr.
 type Colour = [i64; 3];
 
-/// A coupon: its ground at the top left, how far the ground's luma moves to the bottom right, its stripe, its face value.
+/// A coupon: its ground at the top left, how far the ground's luma moves to the bottom right, its stripe, its face
+/// value.
 struct Coupon {
     ground: Colour,
     slope: i64,

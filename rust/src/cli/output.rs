@@ -3,6 +3,7 @@
 use std::collections::BTreeMap;
 use std::fs::{self, File, Permissions};
 use std::io::{self, BufWriter, ErrorKind, Write};
+use std::os::unix::fs::MetadataExt;
 use std::path::{self, Component, Path, PathBuf};
 use std::process;
 use std::sync::atomic::{AtomicUsize, Ordering};
@@ -23,24 +24,42 @@ fn one_name(path: &Path) -> PathBuf {
     name
 }
 
-/// A link to a file that is not there. Nothing is written through it: its file may be another output by the time it is written.
+/// A link to a file that is not there. Nothing is written through it: its file may be another output by the time it
+/// is written.
 fn leads_nowhere(path: &Path) -> bool {
     path.is_symlink() && !path.exists()
 }
 
+/// What tells files apart.
+#[derive(PartialEq, Eq, PartialOrd, Ord)]
+enum Mark {
+    Name(PathBuf),
+    /// Device and inode, which hard links to one file share.
+    File(u64, u64),
+}
+
+/// The marks of a file; a file that is not there yet has a name alone.
+fn marks(path: &Path) -> impl Iterator<Item = Mark> {
+    let there = fs::metadata(path).ok().map(|data| Mark::File(data.dev(), data.ino()));
+    [Mark::Name(one_name(path))].into_iter().chain(there)
+}
+
 /// Says where an output would be written over an input or over another output, or through a link that leads nowhere.
-pub fn clash(inputs: &[&Path], outputs: &[&Path]) -> Option<String> {
-    let mut taken: BTreeMap<PathBuf, &str> = inputs.iter().map(|input| (one_name(input), "also an input")).collect();
+pub fn clash(inputs: &[&Path], outputs: &[&Path]) -> Result<(), String> {
+    let mut taken = BTreeMap::new();
+    for input in inputs {
+        taken.extend(marks(input).map(|mark| (mark, "also an input")));
+    }
     for output in outputs {
-        let other = match taken.insert(one_name(output), "also another output") {
-            None if leads_nowhere(output) => Some("a link that leads to no file"),
-            other => other,
-        };
+        let mut other = leads_nowhere(output).then_some("a link that leads to no file");
+        for mark in marks(output) {
+            other = taken.insert(mark, "also another output").or(other);
+        }
         if let Some(other) = other {
-            return Some(format!("{}: the output is {other}; nothing was done", output.display()));
+            return Err(format!("{}: the output is {other}; nothing was done", output.display()));
         }
     }
-    None
+    Ok(())
 }
 
 /// The file that an output replaces, if there is one: of a link the file behind it.
@@ -88,7 +107,8 @@ fn fill(file: File, write: impl FnOnce(&mut Sink) -> io::Result<()>) -> io::Resu
     sink.get_ref().sync_all()
 }
 
-/// Writes a file beside the output and gives it the output's name at the end. A link stays, and the file behind it is replaced.
+/// Writes a file beside the output and gives it the output's name at the end. A link stays, and the file behind it is
+/// replaced.
 pub fn write_whole(output: &Path, write: impl FnOnce(&mut Sink) -> io::Result<()>) -> io::Result<()> {
     let old = replaced(output)?;
     let target = old.as_ref().map_or(output, |(path, _)| path);

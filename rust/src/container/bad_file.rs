@@ -5,6 +5,8 @@ use std::fmt;
 use std::io;
 
 use super::head::{HEAD_BYTES, LONGEST, MARK};
+use crate::counted::counted;
+use crate::memory::OutOfMemory;
 
 /// Why a file holds no picture.
 #[derive(Debug)]
@@ -46,23 +48,32 @@ pub enum BadFile {
     },
     /// It could not be read.
     Io(io::Error),
+    /// There is not enough memory to read it.
+    Memory(OutOfMemory),
+}
+
+fn bytes(count: u64) -> String {
+    counted(count, "byte", "bytes")
 }
 
 impl fmt::Display for BadFile {
     fn fmt(&self, f: &mut fmt::Formatter<'_>) -> fmt::Result {
         match self {
-            BadFile::NoHead { size } => write!(f, "too short: {size} bytes, and the head has {HEAD_BYTES}"),
+            BadFile::NoHead { size } => write!(f, "too short: {}, and the head has {HEAD_BYTES}", bytes(*size)),
             BadFile::WrongMark(mark) => write!(f, "no picture: it begins with {mark:#010x}, not {MARK:#010x}"),
             BadFile::PcmSwitch(word) => write!(f, "the PCM switch is {word}, not 0 or 1"),
-            BadFile::TooShort { needed, size } => write!(f, "too short: {size} bytes, and its head asks for {needed}"),
+            BadFile::TooShort { needed, size } => {
+                write!(f, "too short: {}, and its head asks for {needed}", bytes(*size))
+            }
             BadFile::TooLarge { list: (name, length) } => {
                 write!(f, "too large: {name} of {length}, and no list of a picture is longer than {LONGEST}")
             }
-            BadFile::TooLong { trailing } => write!(f, "too long: {trailing} bytes after the picture"),
+            BadFile::TooLong { trailing } => write!(f, "too long: {} after the picture", bytes(*trailing)),
             BadFile::Output { plane, samples, size } => {
                 write!(f, "the head's {plane} of {samples} samples is larger than the file of {size} bytes")
             }
             BadFile::Io(error) => write!(f, "cannot be read: {error}"),
+            BadFile::Memory(error) => write!(f, "cannot be read: {error}"),
         }
     }
 }
@@ -72,5 +83,11 @@ impl Error for BadFile {}
 impl From<io::Error> for BadFile {
     fn from(error: io::Error) -> Self {
         BadFile::Io(error)
+    }
+}
+
+impl From<OutOfMemory> for BadFile {
+    fn from(error: OutOfMemory) -> Self {
+        BadFile::Memory(error)
     }
 }

@@ -10,8 +10,8 @@ use crate::settings::Settings;
 pub const MARK: u32 = 0x5348_4C54;
 /// The bytes of the head: the mark, nine settings and ten lengths.
 pub const HEAD_BYTES: usize = 80;
-/// The samples of a plane of the largest picture, 8192 by 8192; every other list is shorter.
-pub(super) const LONGEST: u32 = 8192 * 8192;
+/// The samples of a plane of the largest picture; every other list is shorter.
+pub(super) const LONGEST: u32 = Settings::LARGEST * Settings::LARGEST;
 
 pub(super) const WORDS: usize = HEAD_BYTES / 4;
 /// What the ten lengths count, in their order.

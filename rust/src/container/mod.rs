@@ -5,6 +5,7 @@ mod head;
 
 use std::io::{self, Read, Write};
 
+use crate::memory;
 use crate::picture::{PictureBuf, PlanesBuf};
 
 pub use bad_file::BadFile;
@@ -22,14 +23,14 @@ pub struct StoredPicture {
     pub output_lengths: [usize; 3],
 }
 
-fn read_bytes(reader: &mut impl Read, length: u32) -> io::Result<Vec<u8>> {
-    let mut bytes = vec![0; length as usize];
+fn read_bytes(reader: &mut impl Read, length: u32) -> Result<Vec<u8>, BadFile> {
+    let mut bytes = memory::filled(length as usize, 0)?;
     reader.read_exact(&mut bytes)?;
     Ok(bytes)
 }
 
-fn read_numbers(reader: &mut impl Read, length: u32) -> io::Result<Vec<u16>> {
-    let mut numbers = Vec::with_capacity(length as usize);
+fn read_numbers(reader: &mut impl Read, length: u32) -> Result<Vec<u16>, BadFile> {
+    let mut numbers = memory::room(length as usize)?;
     let mut buffer = [0; BUFFER];
     let mut left = 2 * length as usize;
     while left > 0 {

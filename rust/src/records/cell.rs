@@ -3,12 +3,12 @@
 use super::{OutOfRange, byte};
 use crate::settings::Settings;
 
-/// The strength of an edge, the standard's bS.
+/// The strength of an edge, the standard's bS. Chroma is filtered at 2 alone.
 #[derive(Clone, Copy, Debug, PartialEq, Eq, Hash)]
 pub enum Bs {
     /// bS 0: not filtered.
     Zero,
-    /// bS 1: luma is filtered.
+    /// bS 1: luma is filtered, chroma is left alone.
     One,
     /// bS 2: luma and chroma are filtered.
     Two,
@@ -44,6 +44,11 @@ impl Cell {
     }
 
     /// With an edge on its left side.
+    ///
+    /// Not every such edge is filtered, and none is refused: see [the crate's page](crate#which-edges-are-filtered).
+    /// In short, edges lie on the multiples of 8 of each plane's own samples, so that this does nothing in an odd
+    /// column of cells, nothing to a chroma plane of half the columns but where the column is a multiple of 4, and
+    /// nothing in column 0, the picture's border, or on a tile's left border. [`Bs::One`] leaves chroma alone.
     #[must_use]
     pub fn left_edge(mut self, bs: Bs) -> Self {
         self.bytes[1] |= LEFT_EDGE;
@@ -52,6 +57,11 @@ impl Cell {
     }
 
     /// With an edge on its top side.
+    ///
+    /// Not every such edge is filtered, and none is refused: see [the crate's page](crate#which-edges-are-filtered).
+    /// In short, edges lie on the multiples of 8 of each plane's own samples, so that this does nothing in an odd row
+    /// of cells, nothing to a chroma plane of half the rows but where the row is a multiple of 4, and nothing in row
+    /// 0, the picture's border, or on a tile's top border. [`Bs::One`] leaves chroma alone.
     #[must_use]
     pub fn top_edge(mut self, bs: Bs) -> Self {
         self.bytes[1] |= TOP_EDGE;
@@ -73,7 +83,7 @@ impl Cell {
         self
     }
 
-    /// Of the slice with this number, as [`Slices::push`] returned it.
+    /// Of the slice with this number, as [`Slices::push`](crate::Slices::push) returned it.
     #[must_use]
     pub fn slice(mut self, number: u16) -> Self {
         [self.bytes[4], self.bytes[5]] = number.to_le_bytes();
@@ -95,7 +105,22 @@ pub struct Cells {
 
 impl Cells {
     /// A cell for each 4 by 4 luma block of the picture, all alike.
+    ///
+    /// A picture that is wider or higher than [`Settings::LARGEST`] has none, so that no settings ask for more than 32
+    /// MiB: the stage refuses it for its size (1), whatever its cells.
+    ///
+    /// ```
+    /// use tinladle::{Cell, Cells, ChromaFormat, Settings};
+    /// let cell = Cell::new(37)?;
+    /// let cells = |width, height| Cells::filled(&Settings::new(width, height, ChromaFormat::Yuv420), cell);
+    /// assert_eq!(cells(64, 32).as_bytes().len(), 16 * 8 * Cell::BYTES);
+    /// assert_eq!(cells(u32::MAX, u32::MAX).as_bytes(), []);
+    /// # Ok::<(), tinladle::OutOfRange>(())
+    /// ```
     pub fn filled(settings: &Settings, cell: Cell) -> Self {
+        if settings.width.max(settings.height) > Settings::LARGEST {
+            return Cells { columns: 0, bytes: Vec::new() };
+        }
         let columns = (settings.width / 4) as usize;
         let rows = (settings.height / 4) as usize;
         Cells { columns, bytes: cell.bytes.repeat(columns * rows) }

@@ -1,7 +1,7 @@
 //! Cell and slice records, typed, so that nobody writes byte offsets by hand.
 //!
-//! A builder cannot make a byte that is out of range by itself. Two bounds it cannot know, and the stage checks them: the lowest QP
-//! of the picture's luma depth, and how many slices there are.
+//! A builder cannot make a byte that is out of range by itself. Two bounds it cannot know, and the stage checks them:
+//! the lowest QP of the picture's luma depth, and how many slices there are.
 
 mod cell;
 mod slice;

@@ -32,7 +32,7 @@ impl Slice {
         Slice { bytes: [0, 6, 6, 1] }
     }
 
-    /// Its edges are not filtered.
+    /// The left and top edges of its cells are not filtered.
     #[must_use]
     pub fn disabled(mut self) -> Self {
         self.bytes[0] = 1;
@@ -76,7 +76,7 @@ impl Slices {
         Self::default()
     }
 
-    /// Adds a slice and returns its number, for [`Cell::slice`].
+    /// Adds a slice and returns its number, for [`Cell::slice`](crate::Cell::slice).
     pub fn push(&mut self, slice: Slice) -> Result<u16, OutOfRange> {
         let number = (self.bytes.len() / Slice::BYTES) as u16;
         if usize::from(number) >= Slice::MOST {

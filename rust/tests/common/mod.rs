@@ -46,7 +46,8 @@ pub fn samples(width: usize, height: usize, sample: impl Fn(usize, usize) -> u16
     (0..width * height).map(|i| sample(i % width, i / width)).collect()
 }
 
-/// The stage on a picture, over junk in output planes of these lengths. The originals must stay, and on a refusal the junk.
+/// The stage on a picture, over junk in output planes of these lengths. The originals must stay, and on a refusal the
+/// junk.
 pub fn run_into(picture: &PictureBuf, lengths: [usize; 3]) -> Result<PlanesBuf, Refusal> {
     let before = picture.clone();
     let mut out = PlanesBuf::filled(lengths, JUNK);

@@ -1,4 +1,5 @@
-//! The records that crates/ stores for its programs, and the checksums of their lines: oracle/README.md, 'Records and lines'.
+//! The records that crates/ stores for its programs, and the fingerprints of their lines: oracle/README.md, 'Records and
+//! lines'.
 
 use std::fs;
 use std::path::{Path, PathBuf};
@@ -33,11 +34,11 @@ pub fn expected(name: &str) -> String {
 }
 
 /// FNV-1a of 64 bits, a sample for a byte.
-pub fn checksum(plane: &[u16]) -> u64 {
+pub fn fingerprint(plane: &[u16]) -> u64 {
     plane.iter().fold(0xCBF2_9CE4_8422_2325, |sum, &sample| (sum ^ u64::from(sample)).wrapping_mul(0x100_0000_01B3))
 }
 
 /// Those of the three planes, as a line has them.
-pub fn checksums(planes: [&[u16]; 3]) -> String {
-    planes.map(|plane| format!("{:016x}", checksum(plane))).join(" ")
+pub fn fingerprints(planes: [&[u16]; 3]) -> String {
+    planes.map(|plane| format!("{:016x}", fingerprint(plane))).join(" ")
 }

@@ -56,6 +56,13 @@ pub fn tinladle<S: AsRef<OsStr>>(folder: &Path, words: &[S]) -> Ran {
     command(folder, words).output().unwrap().into()
 }
 
+/// Runs the tool through a shell's script, in which it stands as `"$@"`.
+pub fn through_shell(folder: &Path, script: &str, words: &[&str]) -> Ran {
+    let mut shell = Command::new("sh");
+    shell.current_dir(folder).args(["-c", script, "sh", env!("CARGO_BIN_EXE_tinladle")]).args(words);
+    shell.output().unwrap().into()
+}
+
 /// 32 by 16 in two tiles of 16 by 16: S1's step of document 01 at column 8, in the first tile alone, and K1's nowhere.
 pub fn s1() -> PictureBuf {
     let mut picture = flat(Settings::new(32, 16, ChromaFormat::Yuv420), edges(37));
