@@ -4,13 +4,13 @@ ghost use mathlib.Core.Bool.{false};
 ghost use mathlib.Core.Path.{_≡_};
 
 // The fingerprints of a picture's three planes.
-pub(crate) struct Fingerprints {
+pub struct Fingerprints {
     pub y: u64,
     pub cb: u64,
     pub cr: u64,
 }
 
-pub(crate) fn put_number(n: u64) -> bool {
+pub fn put_number(n: u64) -> bool {
     if !io::print_decimal(STDOUT_FILENO, n) {
         return false;
     }
@@ -24,7 +24,7 @@ fn put_fingerprint(number: u64, end: &[u8]) -> bool {
     io::write_all(STDOUT_FILENO, end)
 }
 
-pub(crate) fn put_fingerprints(planes: Fingerprints) -> bool {
+pub fn put_fingerprints(planes: Fingerprints) -> bool {
     if !put_fingerprint(planes.y, b" ") {
         return false;
     }

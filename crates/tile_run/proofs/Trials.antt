@@ -9,7 +9,7 @@ use native.Mathlib.Omega.{arith}
 use borrow.Author.Tests.{lt-ltb, le-ltb, le-leb, lt-leb}
 use lib.Dec.{ltb}
 use Rattle.ints.proofs.Laws.{either}
-use Rattle.picture_text.specs.declared.tiles.Trial.{Trial}
+use Rattle.tile_run.specs.declared.lines.Trial.{Trial}
 use Rattle.tile_run.specs.Trials.{nextTrial}
 
 -- how many places and lists are left, and some more

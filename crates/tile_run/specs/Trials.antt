@@ -4,7 +4,7 @@
 use Prim.Native.Nat.{ℕ, _+_}
 use mathlib.Core.Bool.{cond}
 use lib.Dec.{leb, ltb}
-use Rattle.picture_text.specs.declared.tiles.Trial.{Trial}
+use Rattle.tile_run.specs.declared.lines.Trial.{Trial}
 
 -- a tile of picture `number`, with the list `wrong` of its cut one off its length, or none (0)
 abbrev pub trial : ℕ → ℕ → ℕ → ℕ → Trial

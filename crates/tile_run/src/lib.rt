@@ -1,5 +1,6 @@
 // Every tile of a picture tried: term 3 as a run.
 mod cut_lists;
+mod lines;
 mod one_tile;
 mod tiles;
 

@@ -5,12 +5,12 @@ use crate::cut_lists::chroma_size;
 use crate::cut_lists::lent_cells;
 use crate::cut_lists::lent_outputs;
 use crate::cut_lists::lent_planes;
+use crate::lines::Trial;
+use crate::lines::put_place;
+use crate::lines::put_tile;
 use picture::Settings;
 use picture_record::CELL_BYTES;
 use picture_record::SAMPLES;
-use picture_text::Trial;
-use picture_text::put_place;
-use picture_text::put_tile;
 use tile_check::check_tile;
 use tile_parts::cut_size;
 

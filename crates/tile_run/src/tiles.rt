@@ -1,9 +1,9 @@
 // Term 3 tried on a picture: each tile, one past the last of each row and below the last row, and each list of a cut
 // one off its length.
 use crate::LentSamples;
+use crate::lines::Trial;
 use crate::one_tile::one_tile;
 use picture::Settings;
-use picture_text::Trial;
 use tile_parts::TileAt;
 ghost use mathlib.Core.Path.{_≡_};
 ghost use Prim.Native.Nat.{_<_};

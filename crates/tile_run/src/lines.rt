@@ -1,25 +1,25 @@
 // The line of a tile: the picture's number, the tile's column and row, the list that is one off its length or 0, and
 // the answer in words.
-use crate::words::Fingerprints;
-use crate::words::put_fingerprints;
-use crate::words::put_number;
 use fingerprint::plane_fingerprint;
 use ledger::Verdict;
 use ledger::number_of;
 use ledger::place_of;
 use libc::STDOUT_FILENO;
+use picture_text::Fingerprints;
+use picture_text::put_fingerprints;
+use picture_text::put_number;
 use tile_check::TileAnswer;
 use tile_parts::CutSize;
 use tile_parts::TileAt;
 
 // What is tried: a tile of a picture, with the list `wrong` of its cut one off its length, or none (0).
-pub struct Trial {
+pub(crate) struct Trial {
     pub number: u64,
     pub at: TileAt,
     pub wrong: usize,
 }
 
-pub fn put_place(trial: Trial) -> bool {
+pub(crate) fn put_place(trial: Trial) -> bool {
     if !put_number(trial.number) {
         return false;
     }
@@ -57,7 +57,7 @@ fn put_differing(count: usize, planes: Fingerprints) -> bool {
 
 // The answer for a tile; where its cut was filtered, with the fingerprints of what that left. `luma` and `chroma` are
 // the sizes of the cut's planes.
-pub fn put_tile(
+pub(crate) fn put_tile(
     answer: TileAnswer,
     luma: CutSize,
     chroma: CutSize,
