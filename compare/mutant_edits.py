@@ -107,12 +107,13 @@ TILES_AND_POSITIONS = [
     Edit("segments/neighbours", "let above = y - 1;", "let above = y;"),
     Edit("picture/rows", "if format == 1 {\n        return 2 * row;", "if format == 1 && row < 8 {\n        return 2 * row;"),
     Edit("picture/columns", "LumaColumn(2 * self.0)", "LumaColumn(self.0)"),
-    Edit("segments/at", "luma_row_at(k, l + 1)", "luma_row_at(k, l)",
+    Edit("segments/at", "luma_row_at(k, l + 1);\n    let v", "luma_row_at(k, l);\n    let v",
          "the first and the second sample of a segment lie in one cell in every format (theorem second-sample)"),
-    Edit("segments/at", "luma_row_at(k, l + 1)", "luma_row_at(k, l + 2)"),
-    Edit("segments/at", "luma_column_at(k, l + 1)", "luma_column_at(k, l + 2)"),
+    Edit("segments/at", "luma_row_at(k, l + 1);\n    let v", "luma_row_at(k, l + 2);\n    let v"),
+    Edit("segments/at", "luma_column_at(k, l + 1);\n    let y = luma_row_at(k, e);\n    let v",
+         "luma_column_at(k, l + 2);\n    let y = luma_row_at(k, e);\n    let v"),
     Edit("segments/at", "segment_filter(k, slices, v, q.bsv)", "segment_filter(k, slices, v, q.bsh)"),
-    Edit("segments/at", "if flags / 2 % 2 == 0 {", "if flags % 2 == 0 {"),
+    Edit("segments/at", "x, y) / 2 % 2 == 1", "x, y) % 2 == 1"),
 ]
 
 PASSES = [

@@ -47,6 +47,10 @@ abbrev pub positionFor : Component → Direction → ℕ → ℕ → Position
 positionFor k vertical e l = positionOf (toLuma (acrossFor k) e) (toLuma (downFor k) (l + 1))
 positionFor k horizontal e l = positionOf (toLuma (acrossFor k) (l + 1)) (toLuma (downFor k) e)
 
+-- the Q cell of that segment
+abbrev pub cellFor : Direction → Component → Frame → List ℕ → ℕ → ℕ → Cell
+cellFor d k f cells e l = cellIn cells (f .«cell_columns» .0) (positionFor k d e l)
+
 -- how the segment between two sides is filtered
 abbrev pub flagged : Direction → Component → List ℕ → Sides → Option Filter
 flagged d k slices s = cond (edgeFlag d (s .q)) (betweenFor k slices s (bsOf d (s .q))) none

@@ -4,7 +4,9 @@ mod between;
 mod neighbours;
 mod scales;
 
+pub use at::horizontal_edge;
 pub use at::horizontal_filter;
+pub use at::vertical_edge;
 pub use at::vertical_filter;
 use filter::ChromaFilter;
 use filter::LumaFilter;

@@ -2,7 +2,7 @@
 use Prim.Native.Nat.{ℕ}
 use mathlib.Core.Path.{_≡_, refl, sym, ap, _∙_, subst}
 use mathlib.Core.List.{List}
-use mathlib.Core.Option.{Option}
+use mathlib.Core.Option.{Option, none}
 use Rattle.filter.specs.declared.ChromaFilter.{ChromaFilter}
 use Rattle.filter.specs.declared.LumaFilter.{LumaFilter}
 use Rattle.filter.specs.Answer.{lumaOf, chromaOf}
@@ -26,31 +26,35 @@ pub record Treated (o : Option Filter) (base across along : ℕ) (xs ys : List �
   pub done : d ≡ treatment o (windowAt xs base across along)
 
 -- by a filter of another name
-pub treated-as : {a b : Option Filter} (base across along : ℕ) {xs ys : List ℕ} {d : Treatment} → a ≡ b
+treated-as : {a b : Option Filter} (base across along : ℕ) {xs ys : List ℕ} {d : Treatment} → a ≡ b
     → Filtered 4 (taken kernel a) base across along xs ys → d ≡ treatment a (windowAt xs base across along)
     → Filtered 4 (taken kernel b) base across along xs ys × (d ≡ treatment b (windowAt xs base across along))
 treated-as base across along {xs} {ys} {d} e f t =
     let h = subst (λ (o : Option Filter). Treated o base across along xs ys d) e (record { filtered = f; done = t }) in
     (h .filtered, h .done)
 
-pub closed : (base across along : ℕ) {xs : List ℕ} (r : Segment) → r ≡ Case.Closed
-    → Filtered 4 (taken kernel (optionOf r)) base across along xs xs
-    × (Closed ≡ treatment (optionOf r) (windowAt xs base across along))
-closed base across along {xs} r e =
-    treated-as base across along (ap optionOf (sym e)) (filtered-same _ base across along xs (λ i j hi hj. refl)) refl
+-- nothing is done at a closed segment
+pub untouched : (base across along : ℕ) {xs : List ℕ} {o : Option Filter} → none ≡ o
+    → Filtered 4 (taken kernel o) base across along xs xs × (Closed ≡ treatment o (windowAt xs base across along))
+untouched base across along {xs} e =
+    treated-as base across along e (filtered-same _ base across along xs (λ i j hi hj. refl)) refl
 
-module _ (base across along : ℕ) {xs ys : List ℕ} where
-  pub luma : (r : Segment) (t : LumaFilter) {d : LumaDecision} → r ≡ Case.Luma t
+-- each case of what was looked up
+
+module _ (base across along : ℕ) {xs : List ℕ} {o : Option Filter} (r : Segment) (looked : optionOf r ≡ o) where
+  pub closed : r ≡ Case.Closed
+      → Filtered 4 (taken kernel o) base across along xs xs × (Closed ≡ treatment o (windowAt xs base across along))
+  closed e = untouched base across along (ap optionOf (sym e) ∙ looked)
+
+  pub luma : {ys : List ℕ} (t : LumaFilter) {d : LumaDecision} → r ≡ Case.Luma t
       → Filtered 4 (kernel (lumaOf t)) base across along xs ys
       → d ≡ caseOf
       (decision (t .beta) (t .tc) (lineOf (windowAt xs base across along) 0)
       (lineOf (windowAt xs base across along) 3))
-      → Filtered 4 (taken kernel (optionOf r)) base across along xs ys
-      × (Luma d ≡ treatment (optionOf r) (windowAt xs base across along))
-  luma r t e f d = treated-as base across along (ap optionOf (sym e)) f (ap Luma d)
+      → Filtered 4 (taken kernel o) base across along xs ys × (Luma d ≡ treatment o (windowAt xs base across along))
+  luma t e f d = treated-as base across along (ap optionOf (sym e) ∙ looked) f (ap Luma d)
 
-  pub chroma : (r : Segment) (t : ChromaFilter) → r ≡ Case.Chroma t
+  pub chroma : {ys : List ℕ} (t : ChromaFilter) → r ≡ Case.Chroma t
       → Filtered 4 (kernel (chromaOf t)) base across along xs ys
-      → Filtered 4 (taken kernel (optionOf r)) base across along xs ys
-      × (Chroma ≡ treatment (optionOf r) (windowAt xs base across along))
-  chroma r t e f = treated-as base across along (ap optionOf (sym e)) f refl
+      → Filtered 4 (taken kernel o) base across along xs ys × (Chroma ≡ treatment o (windowAt xs base across along))
+  chroma t e f = treated-as base across along (ap optionOf (sym e) ∙ looked) f refl

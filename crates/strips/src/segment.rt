@@ -7,7 +7,9 @@ use luma_windows::horizontal_luma;
 use luma_windows::vertical_luma;
 use segments::Frame;
 use segments::Segment;
+use segments::horizontal_edge;
 use segments::horizontal_filter;
+use segments::vertical_edge;
 use segments::vertical_filter;
 ghost use mathlib.Core.Path.{_≡_};
 ghost use Prim.Native.Nat.{_+_, _-_, _*_, _%_, _≤_, _<_};
@@ -20,38 +22,6 @@ ghost use Rattle.planes.specs.Window.{Filtered, Strides, taken, windowAt};
 ghost use Rattle.segments.specs.Between.{optionOf};
 ghost use Rattle.segments.specs.Ready.{Ready};
 ghost use Rattle.segments.specs.Sides.{segmentFor};
-
-fn vertical_window(s: &mut [u16], base: usize, along: usize, r: Segment) -> Treatment
-    requires { ⌜ base + 3 * along + 7 < length (now s) ⌝ }
-    requires { ⌜ Strides 1 along ⌝ }
-    ensures { λ _. ⌜ Filtered 4 (taken kernel (optionOf r)) base 1 along (given s) (left s) ⌝ }
-    ensures { λ d. ⌜ d ≡ treatment (optionOf r) (windowAt (given s) base 1 along) ⌝ }
-{
-    match r {
-        Segment::Closed => Treatment::Closed,
-        Segment::Luma(t) => Treatment::Luma(vertical_luma(s, base, along, t)),
-        Segment::Chroma(t) => {
-            vertical_chroma(s, base, along, t);
-            Treatment::Chroma
-        }
-    }
-}
-
-fn horizontal_window(s: &mut [u16], base: usize, across: usize, r: Segment) -> Treatment
-    requires { ⌜ base + 3 + 7 * across < length (now s) ⌝ }
-    requires { ⌜ Strides across 1 ⌝ }
-    ensures { λ _. ⌜ Filtered 4 (taken kernel (optionOf r)) base across 1 (given s) (left s) ⌝ }
-    ensures { λ d. ⌜ d ≡ treatment (optionOf r) (windowAt (given s) base across 1) ⌝ }
-{
-    match r {
-        Segment::Closed => Treatment::Closed,
-        Segment::Luma(t) => Treatment::Luma(horizontal_luma(s, base, across, t)),
-        Segment::Chroma(t) => {
-            horizontal_chroma(s, base, across, t);
-            Treatment::Chroma
-        }
-    }
-}
 
 // The segment of the vertical edge at column e whose first row is l; `s` holds the four rows from there.
 pub(crate) fn vertical_segment(
@@ -72,8 +42,18 @@ pub(crate) fn vertical_segment(
     ensures { λ d. ⌜ d ≡ treatment (segmentFor vertical k f (given cells) (given slices) (given starts) e l)
         (windowAt (given s) (e - 4) 1 (f .columns)) ⌝ }
 {
-    let r = vertical_filter(cells, slices, starts, k, f, e, l);
-    vertical_window(s, e - 4, f.columns, r)
+    if !vertical_edge(cells, k, f, e, l) {
+        return Treatment::Closed;
+    }
+    let base = e - 4;
+    match vertical_filter(cells, slices, starts, k, f, e, l) {
+        Segment::Closed => Treatment::Closed,
+        Segment::Luma(t) => Treatment::Luma(vertical_luma(s, base, f.columns, t)),
+        Segment::Chroma(t) => {
+            vertical_chroma(s, base, f.columns, t);
+            Treatment::Chroma
+        }
+    }
 }
 
 // The segment of the horizontal edge at row e whose first column is l; `s` holds the eight rows around the edge.
@@ -95,6 +75,15 @@ pub(crate) fn horizontal_segment(
     ensures { λ d. ⌜ d ≡ treatment (segmentFor horizontal k f (given cells) (given slices) (given starts) e l)
         (windowAt (given s) l (f .columns) 1) ⌝ }
 {
-    let r = horizontal_filter(cells, slices, starts, k, f, e, l);
-    horizontal_window(s, l, f.columns, r)
+    if !horizontal_edge(cells, k, f, e, l) {
+        return Treatment::Closed;
+    }
+    match horizontal_filter(cells, slices, starts, k, f, e, l) {
+        Segment::Closed => Treatment::Closed,
+        Segment::Luma(t) => Treatment::Luma(horizontal_luma(s, l, f.columns, t)),
+        Segment::Chroma(t) => {
+            horizontal_chroma(s, l, f.columns, t);
+            Treatment::Chroma
+        }
+    }
 }

@@ -1,15 +1,16 @@
--- `horizontal_filter` meets its contract: the cells are listed, and the segment goes by the flags and the sides that
--- were looked up.
+-- `horizontal_filter` meets its contract: the cells are listed, and the segment, whose flag is set, goes by the sides
+-- that were looked up.
 -- Assumes nothing.
-use Prim.Native.Nat.{ℕ, _+_, _/_, _%_, _<_}
-use mathlib.Core.Path.{_≡_, ap₂}
+use Prim.Native.Nat.{_+_}
+use mathlib.Core.Path.{_≡_, ap, ap₂, _∙_}
+use mathlib.Core.Bool.{true}
 use native.Mathlib.Omega.{arith}
 use borrow.Author.Needs.{needs}
-use Rattle.filter.specs.Segment.{horizontal, Position}
+use Rattle.filter.specs.Segment.{horizontal, edgeFlag, Position}
 use Rattle.picture.specs.declared.Cell.{Cell}
 use Rattle.segments.specs.Listed.{Listed}
 use Rattle.segments.specs.Sides.{cellIn, positionFor, positionOf}
-use Rattle.segments.proofs.Looks.{flag-off, flag-on, q-is, segment-made, segment-none}
+use Rattle.segments.proofs.Looks.{q-is, segment-made}
 use Rattle.segments.proofs.Positions.{listed, past, slice-listed}
 use Rattle.segments.proofs.at.horizontal_filter.Statement.{statement}
 use Rattle.segments.proofs.at.horizontal_filter.Tie as tie
@@ -38,20 +39,15 @@ there m =
     listed (call m .args .k) (call m .args .f) (call m .pre .0) (call m .args .l + 1) (call m .args .e)
     (m .before .luma-column-at .ensures) (m .luma-row-at .ensures) (omega arith) (omega arith)
 
--- the flag's bit
-flag : (s : tie.After-flags-at) → s .flags-at .result / 2 % 2 ≡ cell (s .before) .flags / 2 % 2
-flag s = omega (arith, s .flags-at .ensures)
-
-returns : tie.Need-returns
-returns c =
-    let m = c .before .before in
-    segment-none horizontal (call m .args .k) (call m .args .f) _ (call m .args .slices .now)
-    (call m .args .starts .now) _ _
-    (position m) (flag-off _ _ (flag (c .before)) (c .if1 .taken))
+-- its flag is set
+flag : (m : tie.After-luma-row-at) → edgeFlag horizontal (cell m) ≡ true
+flag m =
+    let a = call m .args in
+    ap (λ (p : Position). edgeFlag horizontal (cellIn (a .cells .now) (a .f .«cell_columns» .0) p)) (position m)
+    ∙ call m .pre .1 .1
 
 horizontal-sides-requires : tie.Need-horizontal-sides-requires
-horizontal-sides-requires c κs =
-    let m = c .before .before in
+horizontal-sides-requires m κs =
     let beyond =
     past (call m .args .k) (call m .args .f) (call m .pre .0) (call m .args .l + 1) (call m .args .e)
     (m .before .luma-column-at .ensures) (m .luma-row-at .ensures) (omega arith) (omega arith) in
@@ -60,7 +56,7 @@ horizontal-sides-requires c κs =
 segment-filter-requires : tie.Need-segment-filter-requires
 segment-filter-requires c κs =
     let v = c .before in
-    let m = v .before .before .before in (
+    let m = v .before in (
       call m .pre .0 .sound,
       slice-listed (call m .args .k) (call m .args .f) (call m .pre .0) (call m .args .l + 1) (call m .args .e)
           (m .before .luma-column-at .ensures) (m .luma-row-at .ensures) (omega (arith, call m .pre .1))
@@ -68,15 +64,13 @@ segment-filter-requires c κs =
           (q-is horizontal _ (call m .args .starts .now) _ _ (place m) (v .horizontal-sides .ensures)),
     )
 
-returns-2 : tie.Need-returns-2
-returns-2 c =
+returns : tie.Need-returns
+returns c =
     let v = c .before .before in
-    let flags = v .before .before in
-    let m = flags .before in
+    let m = v .before in
     segment-made horizontal (call m .args .k) (call m .args .f) _ (call m .args .slices .now)
     (call m .args .starts .now) _ _
-    (position m) (v .horizontal-sides .result) (c .segment-filter .result)
-    (flag-on _ _ (flag flags) (omega arith) (v .before .if1 .left)) (v .horizontal-sides .ensures)
+    (position m) (v .horizontal-sides .result) (c .segment-filter .result) (flag m) (v .horizontal-sides .ensures)
     (c .segment-filter .ensures)
 
 pub horizontal-filter-spec : {M : Type 1} → statement M
@@ -86,8 +80,6 @@ horizontal-filter-spec =
     (λ c. search needs)
     (λ c κs. search needs)
     (λ c κs. search needs)
-    (λ m κs. there m)
-    returns
     horizontal-sides-requires
     segment-filter-requires
-    returns-2)
+    returns)

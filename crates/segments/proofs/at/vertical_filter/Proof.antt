@@ -1,15 +1,16 @@
--- `vertical_filter` meets its contract: the cells are listed, and the segment goes by the flags and the sides that
--- were looked up.
+-- `vertical_filter` meets its contract: the cells are listed, and the segment, whose flag is set, goes by the sides
+-- that were looked up.
 -- Assumes nothing.
-use Prim.Native.Nat.{ℕ, _+_, _/_, _%_, _<_}
-use mathlib.Core.Path.{_≡_, ap₂}
+use Prim.Native.Nat.{_+_}
+use mathlib.Core.Path.{_≡_, ap, ap₂, _∙_}
+use mathlib.Core.Bool.{true}
 use native.Mathlib.Omega.{arith}
 use borrow.Author.Needs.{needs}
-use Rattle.filter.specs.Segment.{vertical, Position}
+use Rattle.filter.specs.Segment.{vertical, edgeFlag, Position}
 use Rattle.picture.specs.declared.Cell.{Cell}
 use Rattle.segments.specs.Listed.{Listed}
 use Rattle.segments.specs.Sides.{cellIn, positionFor, positionOf}
-use Rattle.segments.proofs.Looks.{flag-off, flag-on, q-is, segment-made, segment-none}
+use Rattle.segments.proofs.Looks.{q-is, segment-made}
 use Rattle.segments.proofs.Positions.{listed, past, slice-listed}
 use Rattle.segments.proofs.at.vertical_filter.Statement.{statement}
 use Rattle.segments.proofs.at.vertical_filter.Tie as tie
@@ -38,20 +39,15 @@ there m =
     listed (call m .args .k) (call m .args .f) (call m .pre .0) (call m .args .e) (call m .args .l + 1)
     (m .before .luma-column-at .ensures) (m .luma-row-at .ensures) (omega arith) (omega arith)
 
--- the flag's bit
-flag : (s : tie.After-flags-at) → s .flags-at .result % 2 ≡ cell (s .before) .flags / 1 % 2
-flag s = omega (arith, s .flags-at .ensures)
-
-returns : tie.Need-returns
-returns c =
-    let m = c .before .before in
-    segment-none vertical (call m .args .k) (call m .args .f) _ (call m .args .slices .now)
-    (call m .args .starts .now) _ _
-    (position m) (flag-off _ _ (flag (c .before)) (c .if1 .taken))
+-- its flag is set
+flag : (m : tie.After-luma-row-at) → edgeFlag vertical (cell m) ≡ true
+flag m =
+    let a = call m .args in
+    ap (λ (p : Position). edgeFlag vertical (cellIn (a .cells .now) (a .f .«cell_columns» .0) p)) (position m)
+    ∙ call m .pre .1 .1
 
 vertical-sides-requires : tie.Need-vertical-sides-requires
-vertical-sides-requires c κs =
-    let m = c .before .before in
+vertical-sides-requires m κs =
     let beyond =
     past (call m .args .k) (call m .args .f) (call m .pre .0) (call m .args .e) (call m .args .l + 1)
     (m .before .luma-column-at .ensures) (m .luma-row-at .ensures) (omega arith) (omega arith) in
@@ -60,7 +56,7 @@ vertical-sides-requires c κs =
 segment-filter-requires : tie.Need-segment-filter-requires
 segment-filter-requires c κs =
     let v = c .before in
-    let m = v .before .before .before in (
+    let m = v .before in (
       call m .pre .0 .sound,
       slice-listed (call m .args .k) (call m .args .f) (call m .pre .0) (call m .args .e) (call m .args .l + 1)
           (m .before .luma-column-at .ensures) (m .luma-row-at .ensures) (omega (arith, call m .pre .1))
@@ -68,15 +64,13 @@ segment-filter-requires c κs =
           (q-is vertical _ (call m .args .starts .now) _ _ (place m) (v .vertical-sides .ensures)),
     )
 
-returns-2 : tie.Need-returns-2
-returns-2 c =
+returns : tie.Need-returns
+returns c =
     let v = c .before .before in
-    let flags = v .before .before in
-    let m = flags .before in
+    let m = v .before in
     segment-made vertical (call m .args .k) (call m .args .f) _ (call m .args .slices .now)
     (call m .args .starts .now) _ _
-    (position m) (v .vertical-sides .result) (c .segment-filter .result)
-    (flag-on _ _ (flag flags) (omega arith) (v .before .if1 .left)) (v .vertical-sides .ensures)
+    (position m) (v .vertical-sides .result) (c .segment-filter .result) (flag m) (v .vertical-sides .ensures)
     (c .segment-filter .ensures)
 
 pub vertical-filter-spec : {M : Type 1} → statement M
@@ -86,8 +80,6 @@ vertical-filter-spec =
     (λ c κs. search needs)
     (λ c. search needs)
     (λ c κs. search needs)
-    (λ m κs. there m)
-    returns
     vertical-sides-requires
     segment-filter-requires
-    returns-2)
+    returns)
