@@ -8,10 +8,12 @@ use native.Mathlib.Omega.{arith}
 use borrow.Author.Tests.{lt-ltb, le-ltb, le-leb, lt-leb, not-true, not-false}
 use lib.Dec.{leb}
 use Rattle.ints.specs.Int.{_⊖_}
+use Rattle.filter.specs.declared.ChromaFilter.{ChromaFilter}
 use Rattle.filter.specs.declared.Component.{Component}
+use Rattle.filter.specs.declared.LumaFilter.{LumaFilter}
 use Rattle.filter.specs.declared.SliceGate.the-variants.{Closed, Open}
-use Rattle.filter.specs.Answer.{sliceGate}
-use Rattle.filter.specs.Kernel.{Filter, tcOf}
+use Rattle.filter.specs.Answer.{Sound, chromaOf, lumaOf, sliceGate}
+use Rattle.filter.specs.Kernel.{Filter, luma, chroma, tcOf}
 use Rattle.filter.specs.Segment.{slicesOpen, lumaFilter, chromaFilter}
 use Rattle.picture.specs.declared.Cell.{Cell}
 use Rattle.picture.specs.declared.Slice.{Slice}
@@ -45,6 +47,19 @@ module _ (k : Component) (p q : Cell) (s : Slice) (bS : ℕ) where
   pub chroma-for : k .luma ≡ false
       → chromaFilter (k .format) (k .depth) (k .offset ⊖ 12) p q s ≡ filterFor k p q s bS
   chroma-for e = either-for false e
+
+  -- its largest sample is the component's
+  module _ (sound : Sound k) where
+    pub luma-at-largest : (f : LumaFilter) → lumaOf f ≡ lumaFilter (k .depth) p q s bS
+        → luma (f .beta) (f .tc) (k .largest) ≡ lumaFilter (k .depth) p q s bS
+    unfolding lumaFilter
+    luma-at-largest f e = cc (sound .largest-is)
+
+    pub chroma-at-largest : (f : ChromaFilter)
+        → chromaOf f ≡ chromaFilter (k .format) (k .depth) (k .offset ⊖ 12) p q s
+        → chroma (f .tc) (k .largest) ≡ chromaFilter (k .format) (k .depth) (k .offset ⊖ 12) p q s
+    unfolding chromaFilter
+    chroma-at-largest f e = cc (sound .largest-is)
 
 -- ---- the gate
 

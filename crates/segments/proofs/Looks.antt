@@ -69,7 +69,8 @@ module _ (d : Direction) (k : Component) (f : Frame) (cells slices starts : List
   -- of one whose flag is 1 the sides decide
   pub segment-made : (v : Sides) (r : Segment) → edgeFlag d (cellIn cells w (positionOf x y)) ≡ true
       → v ≡ S (positionOf x y)
-      → optionOf r ≡ betweenFor k slices v (bsOf d (v .q)) → optionOf r ≡ segmentFor d k f cells slices starts e l
+      → optionOf (k .largest) r ≡ betweenFor k slices v (bsOf d (v .q))
+      → optionOf (k .largest) r ≡ segmentFor d k f cells slices starts e l
   unfolding segmentFor sidesAt
   segment-made v r on ev er =
       er

@@ -7,8 +7,7 @@ use mathlib.Core.Option.{Option, none, some}
 use lib.Dec.{leb, ltb}
 use Rattle.ints.specs.Int.{_⊖_}
 use Rattle.filter.specs.declared.Component.{Component}
-use Rattle.filter.specs.Answer.{lumaOf, chromaOf}
-use Rattle.filter.specs.Kernel.{Filter, tcOf}
+use Rattle.filter.specs.Kernel.{Filter, luma, chroma, tcOf}
 use Rattle.filter.specs.Segment.{slicesOpen, lumaFilter, chromaFilter}
 use Rattle.picture.specs.declared.Cell.{Cell}
 use Rattle.picture.specs.declared.Slice.{Slice}
@@ -36,8 +35,8 @@ betweenFor k slices s bS =
     cond (leb (leastFor k) bS && (s .same && slicesOpen (s .p) (s .q) sliceQ))
     (positive (filterFor k (s .p) (s .q) sliceQ bS)) none
 
--- what a Segment says
-abbrev pub optionOf : Segment → Option Filter
-optionOf Closed = none
-optionOf (Luma f) = some (lumaOf f)
-optionOf (Chroma f) = some (chromaOf f)
+-- what a Segment says of a component with this largest sample
+abbrev pub optionOf : ℕ → Segment → Option Filter
+optionOf largest Closed = none
+optionOf largest (Luma β tc) = some (luma β tc largest)
+optionOf largest (Chroma tc) = some (chroma tc largest)

@@ -45,7 +45,8 @@ pub fn vertical_filter(
     requires { ⌜ Ready k f (now cells) (now slices) ⌝ }
     requires { ⌜ (8 ≤ e) × (e < f .columns) × (l + 1 < f .rows) ⌝ }
     requires { ⌜ edgeFlag vertical (cellFor vertical k f (now cells) e l) ≡ true ⌝ }
-    ensures { λ r. ⌜ optionOf r ≡ segmentFor vertical k f (given cells) (given slices) (given starts) e l ⌝ }
+    ensures { λ r. ⌜ optionOf (k .largest) r
+        ≡ segmentFor vertical k f (given cells) (given slices) (given starts) e l ⌝ }
 {
     let x = luma_column_at(k, e);
     let y = luma_row_at(k, l + 1);
@@ -77,7 +78,8 @@ pub fn horizontal_filter(
     requires { ⌜ Ready k f (now cells) (now slices) ⌝ }
     requires { ⌜ (8 ≤ e) × (e < f .rows) × (l + 1 < f .columns) ⌝ }
     requires { ⌜ edgeFlag horizontal (cellFor horizontal k f (now cells) e l) ≡ true ⌝ }
-    ensures { λ r. ⌜ optionOf r ≡ segmentFor horizontal k f (given cells) (given slices) (given starts) e l ⌝ }
+    ensures { λ r. ⌜ optionOf (k .largest) r
+        ≡ segmentFor horizontal k f (given cells) (given slices) (given starts) e l ⌝ }
 {
     let x = luma_column_at(k, l + 1);
     let y = luma_row_at(k, e);

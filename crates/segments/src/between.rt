@@ -26,27 +26,30 @@ fn least_bs(luma: bool) -> u8
 // The filter of a segment whose gate is open. tc 0 leaves it alone.
 fn open_filter(k: Component, p: Cell, q: Cell, s: Slice, bs: u8) -> Segment
     requires { ⌜ Sound k ⌝ }
-    ensures { λ r. ⌜ optionOf r ≡ positive (filterFor k p q s bs) ⌝ }
+    ensures { λ r. ⌜ optionOf (k .largest) r ≡ positive (filterFor k p q s bs) ⌝ }
 {
     if k.luma {
         let f = luma_filter(k, p, q, s, bs);
         if f.tc == 0 {
             return Segment::Closed;
         }
-        return Segment::Luma(f);
+        return Segment::Luma {
+            beta: f.beta,
+            tc: f.tc,
+        };
     }
     let f = chroma_filter(k, p, q, s);
     if f.tc == 0 {
         return Segment::Closed;
     }
-    Segment::Chroma(f)
+    Segment::Chroma { tc: f.tc }
 }
 
 // `bs` is the Q cell's for the edge's direction.
 pub(crate) fn segment_filter(k: Component, slices: &[u8], v: Sides, bs: u8) -> Segment
     requires { ⌜ Sound k ⌝ }
     requires { ⌜ v .q .slice < sliceCount (now slices) ⌝ }
-    ensures { λ r. ⌜ optionOf r ≡ betweenFor k (given slices) v bs ⌝ }
+    ensures { λ r. ⌜ optionOf (k .largest) r ≡ betweenFor k (given slices) v bs ⌝ }
 {
     if bs < least_bs(k.luma) {
         return Segment::Closed;

@@ -8,8 +8,6 @@ pub use at::horizontal_edge;
 pub use at::horizontal_filter;
 pub use at::vertical_edge;
 pub use at::vertical_filter;
-use filter::ChromaFilter;
-use filter::LumaFilter;
 use picture::Cell;
 use picture::CellColumn;
 pub use scales::luma_row_at;
@@ -32,9 +30,9 @@ pub struct Sides {
     pub same: bool,
 }
 
-// How a segment is filtered.
+// How a segment is filtered: its thresholds. The largest sample is the component's and does not travel with each.
 pub enum Segment {
     Closed,
-    Luma(LumaFilter),
-    Chroma(ChromaFilter),
+    Luma { beta: u16, tc: u16 },
+    Chroma { tc: u16 },
 }

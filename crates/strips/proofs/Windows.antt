@@ -3,9 +3,7 @@ use Prim.Native.Nat.{ℕ}
 use mathlib.Core.Path.{_≡_, refl, sym, ap, _∙_, subst}
 use mathlib.Core.List.{List}
 use mathlib.Core.Option.{Option, none}
-use Rattle.filter.specs.declared.ChromaFilter.{ChromaFilter}
-use Rattle.filter.specs.declared.LumaFilter.{LumaFilter}
-use Rattle.filter.specs.Answer.{lumaOf, chromaOf}
+use Rattle.filter.specs.Kernel as Kernel
 use Rattle.filter.specs.Kernel.{Filter, kernel, lineOf}
 use Rattle.lines.specs.declared.LumaDecision.{LumaDecision}
 use Rattle.lines.specs.Answer.{caseOf}
@@ -41,20 +39,20 @@ untouched base across along {xs} e =
 
 -- each case of what was looked up
 
-module _ (base across along : ℕ) {xs : List ℕ} {o : Option Filter} (r : Segment) (looked : optionOf r ≡ o) where
+module _ (base across along : ℕ) {xs : List ℕ} {o : Option Filter} (largest : ℕ) (r : Segment)
+    (looked : optionOf largest r ≡ o) where
   pub closed : r ≡ Case.Closed
       → Filtered 4 (taken kernel o) base across along xs xs × (Closed ≡ treatment o (windowAt xs base across along))
-  closed e = untouched base across along (ap optionOf (sym e) ∙ looked)
+  closed e = untouched base across along (ap (optionOf largest) (sym e) ∙ looked)
 
-  pub luma : {ys : List ℕ} (t : LumaFilter) {d : LumaDecision} → r ≡ Case.Luma t
-      → Filtered 4 (kernel (lumaOf t)) base across along xs ys
+  pub luma : {ys : List ℕ} (β tc : ℕ) {d : LumaDecision} → r ≡ Case.Luma β tc
+      → Filtered 4 (kernel (Kernel.luma β tc largest)) base across along xs ys
       → d ≡ caseOf
-      (decision (t .beta) (t .tc) (lineOf (windowAt xs base across along) 0)
-      (lineOf (windowAt xs base across along) 3))
+      (decision β tc (lineOf (windowAt xs base across along) 0) (lineOf (windowAt xs base across along) 3))
       → Filtered 4 (taken kernel o) base across along xs ys × (Luma d ≡ treatment o (windowAt xs base across along))
-  luma t e f d = treated-as base across along (ap optionOf (sym e) ∙ looked) f (ap Luma d)
+  luma β tc e f d = treated-as base across along (ap (optionOf largest) (sym e) ∙ looked) f (ap Luma d)
 
-  pub chroma : {ys : List ℕ} (t : ChromaFilter) → r ≡ Case.Chroma t
-      → Filtered 4 (kernel (chromaOf t)) base across along xs ys
+  pub chroma : {ys : List ℕ} (tc : ℕ) → r ≡ Case.Chroma tc
+      → Filtered 4 (kernel (Kernel.chroma tc largest)) base across along xs ys
       → Filtered 4 (taken kernel o) base across along xs ys × (Chroma ≡ treatment o (windowAt xs base across along))
-  chroma t e f = treated-as base across along (ap optionOf (sym e) ∙ looked) f refl
+  chroma tc e f = treated-as base across along (ap (optionOf largest) (sym e) ∙ looked) f refl

@@ -2,7 +2,9 @@
 use crate::Treatment;
 use chroma_windows::horizontal_chroma;
 use chroma_windows::vertical_chroma;
+use filter::ChromaFilter;
 use filter::Component;
+use filter::LumaFilter;
 use luma_windows::horizontal_luma;
 use luma_windows::vertical_luma;
 use segments::Frame;
@@ -48,8 +50,19 @@ pub(crate) fn vertical_segment(
     let base = e - 4;
     match vertical_filter(cells, slices, starts, k, f, e, l) {
         Segment::Closed => Treatment::Closed,
-        Segment::Luma(t) => Treatment::Luma(vertical_luma(s, base, f.columns, t)),
-        Segment::Chroma(t) => {
+        Segment::Luma { beta, tc } => {
+            let t = LumaFilter {
+                beta,
+                tc,
+                largest: k.largest,
+            };
+            Treatment::Luma(vertical_luma(s, base, f.columns, t))
+        }
+        Segment::Chroma { tc } => {
+            let t = ChromaFilter {
+                tc,
+                largest: k.largest,
+            };
             vertical_chroma(s, base, f.columns, t);
             Treatment::Chroma
         }
@@ -80,8 +93,19 @@ pub(crate) fn horizontal_segment(
     }
     match horizontal_filter(cells, slices, starts, k, f, e, l) {
         Segment::Closed => Treatment::Closed,
-        Segment::Luma(t) => Treatment::Luma(horizontal_luma(s, l, f.columns, t)),
-        Segment::Chroma(t) => {
+        Segment::Luma { beta, tc } => {
+            let t = LumaFilter {
+                beta,
+                tc,
+                largest: k.largest,
+            };
+            Treatment::Luma(horizontal_luma(s, l, f.columns, t))
+        }
+        Segment::Chroma { tc } => {
+            let t = ChromaFilter {
+                tc,
+                largest: k.largest,
+            };
             horizontal_chroma(s, l, f.columns, t);
             Treatment::Chroma
         }

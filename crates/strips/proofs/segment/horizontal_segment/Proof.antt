@@ -22,10 +22,10 @@ abbrev call : tie.After-horizontal-edge → tie.Start
 call c = lists (c .before) .before
 
 -- from a filter to the thresholds that it was given, and from what was looked up to the edge
-abbrev of-luma : tie.After-horizontal-luma-arg → tie.After-t
+abbrev of-luma : tie.After-horizontal-luma-arg → tie.After-beta
 of-luma c = c .before .before
 
-abbrev of-chroma : tie.After-horizontal-chroma-arg → tie.After-t2
+abbrev of-chroma : tie.After-horizontal-chroma-arg → tie.After-tc
 of-chroma c = c .before .before
 
 abbrev edge : tie.After-horizontal-filter → tie.After-horizontal-edge
@@ -63,20 +63,20 @@ horizontal-chroma-requires c κs =
     (omega (arith, pre .1), apart-rows _ (omega (arith, pre .1)))
 
 returns-2 : tie.Need-returns-2
-returns-2 c = closed _ _ _ _ (c .before .before .horizontal-filter .ensures) (c .enum-told .given .1)
+returns-2 c = closed _ _ _ _ _ (c .before .before .horizontal-filter .ensures) (c .enum-told .given .1)
 
 returns-3 : tie.Need-returns-3
 returns-3 c =
     let filtered = c .before .before in
     let t = of-luma (filtered .before) in
-    luma _ _ _ _ (t .before .before .horizontal-filter .ensures) _ (t .t .given .1) (filtered .horizontal-luma .ensures .0)
+    luma _ _ _ _ _ (t .before .before .horizontal-filter .ensures) _ _ (t .beta .given .1) (filtered .horizontal-luma .ensures .0)
     (filtered .horizontal-luma .ensures .1)
 
 returns-4 : tie.Need-returns-4
 returns-4 c =
     let filtered = c .before .before in
     let t = of-chroma (filtered .before) in
-    chroma _ _ _ _ (t .before .before .horizontal-filter .ensures) _ (t .t2 .given .1) (filtered .horizontal-chroma .ensures)
+    chroma _ _ _ _ _ (t .before .before .horizontal-filter .ensures) _ (t .tc .given .1) (filtered .horizontal-chroma .ensures)
 
 pub horizontal-segment-spec : {M : Type 1} → statement M
 horizontal-segment-spec =
