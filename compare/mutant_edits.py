@@ -119,9 +119,9 @@ TILES_AND_POSITIONS = [
 PASSES = [
     Edit("strips/vertical", "let mut e = 8;", "let mut e = 16;"),
     Edit("strips/vertical", "while e < f.columns {", "while e + 8 < f.columns {"),
-    Edit("passes/vertical", "r += 4;", "r += 8;"),
-    Edit("passes/horizontal", "let mut e = (row0 / 8 + 1) * 8;", "let mut e = (row0 / 8 + 2) * 8;"),
-    Edit("passes/horizontal", "while e < row1 {", "while e + 8 < row1 {"),
+    Edit("vertical_pass/lib", "r += 4;", "r += 8;"),
+    Edit("horizontal_pass/lib", "let mut e = (row0 / 8 + 1) * 8;", "let mut e = (row0 / 8 + 2) * 8;"),
+    Edit("horizontal_pass/lib", "while e < row1 {", "while e + 8 < row1 {"),
     Edit("strips/horizontal", "while x < f.columns {", "while x + 4 < f.columns {"),
     Edit("filter/bands", "        row + height\n", "        row + 4\n",
          "vertical bands of any number of whole segments give the same planes, by the contract of vertical_band"),

@@ -1,11 +1,11 @@
 // One component's plane, from the original to the finished samples.
 use crate::Direction;
 use filter::Component;
-use passes::horizontal_pass;
-use passes::vertical_pass;
+use horizontal_pass::horizontal_pass;
 use restore::Restoration;
 use restore::restore;
 use segments::Frame;
+use vertical_pass::vertical_pass;
 ghost use mathlib.Core.Path.{_≡_};
 ghost use Prim.Native.Nat.{_*_};
 ghost use lib.ListN.{length};

@@ -22,8 +22,8 @@ use Rattle.planes.proofs.Bands.{
 }
 use Rattle.planes.proofs.Parts.{rowsBack}
 use Rattle.strips.specs.Passed.{passFor}
-use Rattle.passes.proofs.horizontal.horizontal_band.Statement.{statement}
-use Rattle.passes.proofs.horizontal.horizontal_band.Tie as tie
+use Rattle.horizontal_pass.proofs.horizontal_band.Statement.{statement}
+use Rattle.horizontal_pass.proofs.horizontal_band.Tie as tie
 
 abbrev Inv-loop : tie.InvT-loop
 Inv-loop s₀ cells slices starts k f row0 row1 e₀ s e =

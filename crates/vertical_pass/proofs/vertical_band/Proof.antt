@@ -11,8 +11,8 @@ use Rattle.picture.proofs.Index.{row-le, rows-on}
 use Rattle.planes.specs.Rows.{seen}
 use Rattle.planes.proofs.Bands.{Done, done-none, done-all, done-more, vertical-local}
 use Rattle.strips.specs.Passed.{passFor}
-use Rattle.passes.proofs.vertical.vertical_band.Statement.{statement}
-use Rattle.passes.proofs.vertical.vertical_band.Tie as tie
+use Rattle.vertical_pass.proofs.vertical_band.Statement.{statement}
+use Rattle.vertical_pass.proofs.vertical_band.Tie as tie
 
 abbrev Inv-loop : tie.InvT-loop
 Inv-loop s₀ cells slices starts k f row0 row1 r₀ s r =

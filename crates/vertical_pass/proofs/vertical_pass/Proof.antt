@@ -1,26 +1,25 @@
--- `horizontal_pass` meets its contract. The loop's invariant: the rows before r are done, and r is where a band ends.
+-- `vertical_pass` meets its contract. The loop's invariant: the rows before r are done, and r is where a band ends.
 -- Assumes nothing.
-use Prim.Native.Nat.{_+_, _-_, _*_, _≤_, _<_}
-use mathlib.Core.Logic.{inl}
+use Prim.Native.Nat.{_+_, _-_, _*_, _%_, _≤_, _<_}
 use mathlib.Core.Path.{_≡_, refl}
 use native.Mathlib.Omega.{arith}
 use lib.ListN.{length}
-use Rattle.filter.specs.Bands.{horizontalBands, horizontalBandEnd, Seam}
+use Rattle.filter.specs.Bands.{ctbBands, ctbBandEnd}
 use Rattle.filter.specs.Kernel.{kernel}
-use Rattle.filter.specs.Segment.{horizontal}
-use Rattle.filter.proofs.AllBands.{Through, horizontal-start, horizontal-next, horizontal-end}
+use Rattle.filter.specs.Segment.{vertical}
+use Rattle.filter.proofs.AllBands.{Through, ctb-start, ctb-next}
 use Rattle.picture.specs.Plane.{Plane, at}
 use Rattle.picture.proofs.Index.{row-le, rows-between}
-use Rattle.planes.proofs.Bands.{DoneTo, plane-none, plane-all, plane-more, horizontal-local}
+use Rattle.planes.proofs.Bands.{DoneTo, plane-none, plane-all, plane-more, vertical-local}
 use Rattle.strips.specs.Passed.{passFor}
-use Rattle.passes.proofs.horizontal.horizontal_pass.Statement.{statement}
-use Rattle.passes.proofs.horizontal.horizontal_pass.Tie as tie
+use Rattle.vertical_pass.proofs.vertical_pass.Statement.{statement}
+use Rattle.vertical_pass.proofs.vertical_pass.Tie as tie
 
 abbrev Inv-loop : tie.InvT-loop
 Inv-loop s₀ cells slices starts k f r₀ s r =
-    Seam (f .rows) r × (r ≤ f .rows) × (length s ≡ length s₀)
-    × DoneTo (f .columns) (f .rows) (passFor horizontal k f cells slices starts) (at s₀ (f .columns)) r s
-    × Through (horizontalBands (f .rows) (f .band)) (horizontalBandEnd (f .rows) (f .band)) (f .rows) r
+    (r % 4 ≡ 0) × (r ≤ f .rows) × (length s ≡ length s₀)
+    × DoneTo (f .columns) (f .rows) (passFor vertical k f cells slices starts) (at s₀ (f .columns)) r s
+    × Through (ctbBands (f .rows) (f .band)) (ctbBandEnd (f .rows) (f .band)) (f .rows) r
 
 abbrev μ-loop : tie.MeasureT-loop
 μ-loop s₀ cells slices starts k f r₀ s r = f .rows - r
@@ -36,13 +35,13 @@ call c = lists (c .before) .before
 abbrev T : tie.Start Inv-loop μ-loop → Plane → Plane
 T st =
     let a = st .args in
-    passFor horizontal (a .k) (a .f) (a .cells .now) (a .slices .now) (a .starts .now)
+    passFor vertical (a .k) (a .f) (a .cells .now) (a .slices .now) (a .starts .now)
 
 -- a turn: from the band that was filtered to where it ends, and from there to the loop's head
-abbrev bounds : tie.After-horizontal-band Inv-loop μ-loop → tie.After-struct-known3 Inv-loop μ-loop
+abbrev bounds : tie.After-vertical-band Inv-loop μ-loop → tie.After-struct-known3 Inv-loop μ-loop
 bounds c = c .before .before
 
-abbrev turn : tie.After-struct-known3 Inv-loop μ-loop → tie.After-horiz-band-end Inv-loop μ-loop
+abbrev turn : tie.After-struct-known3 Inv-loop μ-loop → tie.After-ctb-band-end Inv-loop μ-loop
 turn c = c .before .before
 
 abbrev head : tie.Then1 Inv-loop μ-loop → tie.At-loop Inv-loop μ-loop
@@ -52,33 +51,34 @@ abbrev last : tie.Else1 Inv-loop μ-loop → tie.At-loop Inv-loop μ-loop
 last c = c .before .before
 
 -- the band, and what the products come to
-room : (c : tie.After-horiz-band-end Inv-loop μ-loop)
+room : (c : tie.After-ctb-band-end Inv-loop μ-loop)
     → let st = call (head (c .before)) .args in
     let at = head (c .before) .loop in
-    let end = c .horiz-band-end .result in
-    (at .r < end) × (end ≤ st .f .rows) × (Seam (st .f .rows) end)
+    let end = c .ctb-band-end .result in
+    (at .r < end) × (end ≤ st .f .rows) × (end % 4 ≡ 0)
     × (end * st .f .columns ≡ at .r * st .f .columns + (end - at .r) * st .f .columns)
     × (end * st .f .columns ≤ length (at .s))
+unfolding ctbBandEnd
 room c =
     let pre = call (head (c .before)) .pre .0 in
     let f = call (head (c .before)) .args .f in
     let at = head (c .before) .loop in
-    let end = c .horiz-band-end .result in
-    let z : (at .r < end) × (end ≤ f .rows) × Seam (f .rows) end =
-    rw (c .horiz-band-end .ensures) (horizontal-end (f .rows) (f .band) (at .r) (pre .band-some) (omega arith)) in
-    let m : end * f .columns ≤ f .rows * f .columns = row-le (f .columns) (z .1) in
-    (z .0, z .1, z .2, rows-between (f .columns) (omega arith), omega arith)
+    let end = c .ctb-band-end .result in
+    let rises : at .r < end = omega (arith, pre .band-some) in
+    let within : end ≤ f .rows = omega arith in
+    let m : end * f .columns ≤ f .rows * f .columns = row-le (f .columns) within in
+    (rises, within, omega (arith, pre .rows4, pre .band4), rows-between (f .columns) (omega arith), omega arith)
 
 loop-holds : tie.Need-loop-holds Inv-loop μ-loop
 loop-holds c =
     let st = lists c .before in
-    (inl refl, omega arith, refl, plane-none _ _ (T st) (st .args .s .now), horizontal-start _ _)
+    (refl, omega arith, refl, plane-none _ _ (T st) (st .args .s .now), ctb-start _ _)
 
-horizontal-band-requires : tie.Need-horizontal-band-requires Inv-loop μ-loop
-horizontal-band-requires c κs =
+vertical-band-requires : tie.Need-vertical-band-requires Inv-loop μ-loop
+vertical-band-requires c κs =
     let band = turn (c .before) in
     let at = head (band .before) in
-    (call at .pre .0, (omega (arith, room band), (at .loop .inv .0, room band .2)))
+    (call at .pre .0, omega (arith, room band))
 
 loop-again : tie.Need-loop-again Inv-loop μ-loop
 loop-again c =
@@ -87,16 +87,16 @@ loop-again c =
     let st = call (head (start .before)) in
     let pre = st .pre .0 in
     let at = head (start .before) .loop in
-    let end = start .horiz-band-end .result in
-    let band = done .horizontal-band in
+    let end = start .ctb-band-end .result in
+    let band = done .vertical-band in
     let r = room start in (
       r .2,
       r .1,
       omega arith,
       plane-more _ _ (at .r) end (T st)
-          (horizontal-local kernel _ _ _ _ _ (pre .columns4) (pre .rows4) (at .inv .0) (r .2)) _
+          (vertical-local kernel _ _ _ _ (pre .columns4) (at .inv .0) (r .2)) _
           (at .s) (band .last .0) (omega arith) (r .1) (r .4) (band .kept .0) (band .ensures) (at .inv .3),
-      horizontal-next (start .horiz-band-end .ensures) (pre .band-some) (omega arith) (at .inv .4),
+      ctb-next (start .ctb-band-end .ensures) (pre .band-some) (omega arith) (at .inv .4),
     )
 
 returns : tie.Need-returns Inv-loop μ-loop
@@ -104,8 +104,8 @@ returns c =
     let at = last c .loop in
     plane-all _ _ _ (T (call (last c))) _ (at .s) (omega arith) (at .inv .3)
 
-pub horizontal-pass-spec : {M : Type 1} → statement M
-horizontal-pass-spec =
+pub vertical-pass-spec : {M : Type 1} → statement M
+vertical-pass-spec =
     tie.close
     (tie.spec
     Inv-loop
@@ -118,7 +118,7 @@ horizontal-pass-spec =
     (λ c. omega (arith, room (turn c)))
     (λ c. omega (arith, room (turn c)))
     (λ c. omega (arith, room (turn c)))
-    horizontal-band-requires
+    vertical-band-requires
     (λ c. omega (arith, room (turn (bounds (c .before .before)))))
     loop-again
     (λ c. last c .loop .inv .2)
