@@ -1,11 +1,11 @@
 """The stored pictures of the chroma thresholds: both tables at their ends and past them, averages below zero, and where
-the Rust and the standard part. Every expected sample is by document 01's figures; the table TC is bench_model.py's. A
-segment's chroma index is its average QP plus the Cb or Cr offset, and its tc index the chroma QP of that + 2 + 2 * tc
-div2.
+the Rust and the standard part. Every expected sample is by the figures of document 01, and of document 02's C-17; the
+table TC is bench_model.py's. A segment's chroma index is its average QP plus the Cb or Cr offset, and its tc index the
+chroma QP of that + 2 + 2 * tc div2.
 """
 
 from bench_model import TC_TABLE
-from picture_case import Case, edges, same_as
+from picture_case import Case, edges, same_as, stays
 from picture_records import VERTICAL, Picture, oracle
 
 PLANES = ["Cb", "Cr"]
@@ -88,7 +88,7 @@ QPC_ENDS = [(1, "Q1: ", (29, 29), (28, 28), 6, "one before table 8-10"),
             (1, "Q1: ", (43, 37), (41, 36), 6, "the last row of table 8-10"),
             (1, "Q1: ", (44, 38), (43, 37), 6, "one past table 8-10"),
             (1, "", (45, 39), (44, 38), 6, "two past table 8-10, no half step"),
-            (1, "Q2: ", (57, 51), (56, 50), -1, "the last that is not clipped"),
+            (1, "Q2: ", (57, 51), (56, 50), -1, "the last that the Rust does not clip"),
             (2, "", (51, 51), (50, 50), -1, "the largest"), (2, "Q2: ", (52, 51), (50, 50), -1, "one past the largest"),
             (3, "", (51, 51), (50, 50), -1, "the largest"), (3, "", (52, 51), (50, 50), -1, "one past the largest")]
 
@@ -98,6 +98,26 @@ def qpc_ends():
     for format, figure, one, other, tc_div2, what in QPC_ENDS:
         name = f"{figure}chroma index {one[0]} has QP {one[1]}, {what}, for {{}}; {other[0]} has {other[1]} for {{}}"
         yield from for_each_plane(name, format, 37 if one[0] < 50 else 45, tc_div2, one, other)
+
+
+# The ends of the chroma indices that can occur, -60 and 63, and the Rust's clip at 57 (document 02, C-17): format, chroma
+# index and QP, the other plane's, tc div2, what the index is. Every QP is 51.
+FAR_ENDS = [(1, (58, 52), (57, 51), -6, "the first that the Rust clips"), (1, (63, 57), (62, 56), -6, "the last"),
+            (1, (63, 57), (44, 38), 6, "the last, at the furthest tc index"), (2, (63, 51), (50, 50), -1, "the last"),
+            (3, (63, 51), (50, 50), -1, "the last")]
+
+
+def far_ends():
+    for format, one, other, tc_div2, what in FAR_ENDS:
+        name = f"C-17: chroma index {one[0]} has QP {one[1]}, {what}, for {{}}; {other[0]} has {other[1]} for {{}}"
+        yield from for_each_plane(name, format, 51, tc_div2, one, other)
+    for format, (width, height) in ONE_EDGE.items():
+        picture = edges(Picture(width, height, format=format, luma_depth=16, qp=-48, cb_offset=-12, cr_offset=-12,
+                                slices=[(0, 6, 12, 1)]))
+        picture.fill(1, board)
+        picture.fill(2, board)
+        yield Case(f"format {format}: C-17: chroma index -60, the least, has tc 0 at the largest tc offset", picture,
+                   check=stays(picture))
 
 
 # ---- Averages below zero ----
@@ -138,32 +158,26 @@ def averages():
 class Parting(Case):
     """Where the Rust and the standard part (docs/DIFFERENCES.md, 1): the standard does not clip the chroma index."""
 
-    def __init__(self, name, picture, gives, standard):
+    def __init__(self, name, picture, gives, rust):
         super().__init__(name, picture, check=same_as(gives))
-        self.standard = standard
+        self.rust = rust
 
 
 def parting():
-    """Chroma index 63: the Rust clips it to 57 and reads tc row 41, which is 6; the standard row 47, which is 13."""
+    """Chroma index 63: the standard reads tc row 47, which is 13; the Rust clips it to 57 and reads row 41, which is 6."""
     picture = Picture(24, 8, format=1, qp=51, cb_offset=12, slices=[(0, 6, 0, 1)])
     picture.fill(1, lambda x, y: 100 if x < 8 else 120)
     picture.set_cells(lambda record, x, y: record.__setitem__(slice(1, 3), bytes([VERTICAL, 2] if x == 4 else [0, 0])))
-    rust, standard = ([picture.planes[0], 4 * (7 * [100] + [p, q] + 3 * [120]), picture.planes[2]]
-                      for p, q in [(106, 114), (108, 112)])
-    yield Parting("the chroma index is clipped to 57 before it is lowered by 6", picture, rust, standard)
-
-
-def may_part(picture):
-    """In 4:2:0 a chroma index can be above 57, by the largest QP and the larger offset."""
-    return picture.format == 1 and max(picture.cells[::8]) - 64 + max(picture.cb_offset, picture.cr_offset) > 57
+    standard, rust = ([picture.planes[0], 4 * (7 * [100] + [p, q] + 3 * [120]), picture.planes[2]]
+                      for p, q in [(108, 112), (106, 114)])
+    yield Parting("C-17: chroma index 63 is lowered by 6, and not clipped to 57 first", picture, standard, rust)
 
 
 def check_parting(accepted):
-    """`accepted`: cases with the oracle's planes. The oracle without the clip leaves the standard's samples at the
-    parting, and the same planes as the other wherever no index in 4:2:0 is above 57."""
+    """`accepted`: cases with their expected planes. The Rust leaves other samples at the parting; with the clip taken out of
+    its `qpc` it leaves the expected planes of every picture."""
     unclipped, _ = oracle([case.picture for case, _ in accepted], "unclipped")
     for (case, planes), other in zip(accepted, unclipped):
-        if isinstance(case, Parting):
-            assert other == case.standard, case.name
-        elif not may_part(case.picture):
-            assert other == planes, case.name
+        assert other == planes, case.name
+    partings = [case for case, _ in accepted if isinstance(case, Parting)]
+    assert oracle([case.picture for case in partings])[0] == [case.rust for case in partings]

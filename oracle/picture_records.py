@@ -5,7 +5,8 @@
     picture_records.py expect                         reads records, writes the expected text
     picture_records.py compare INPUT EXPECTED ACTUAL  tallies the lines; status 1 at a difference
 
-Numbers and places are those of ledger.py; the planes of accepted pictures are the oracle's (run build.sh first).
+Numbers and places are those of ledger.py; the planes of accepted pictures are the oracle's, or the second program's where
+the Rust does not decide (run build.sh first).
 """
 
 import struct
@@ -126,8 +127,8 @@ def line(number, answer, planes):
 
 
 def oracle(pictures, name="picture"):
-    """The oracle's output planes for each accepted picture, and its counts of segments."""
-    output, counts = run_oracle(name, b"".join(picture.pack() for picture in pictures))
+    """The oracle's output planes for each accepted picture, and what it says: its counts of segments."""
+    output, says = run_oracle(name, b"".join(picture.pack() for picture in pictures))
     samples = struct.unpack(f"<{len(output) // 2}H", output)
     planes, at = [], 0
     for picture in pictures:
@@ -136,13 +137,26 @@ def oracle(pictures, name="picture"):
             planes[-1].append(list(samples[at:at + len(plane)]))
             at += len(plane)
     assert at == len(samples)
-    return planes, counts.strip()
+    return planes, says.strip()
+
+
+def decided(pictures):
+    """The output planes of each accepted picture by the one who decides: the Rust, or where an open chroma segment in 4:2:0
+    has an index above 57 the second program (docs/DIFFERENCES.md, 1), which must give the Rust's planes everywhere else.
+    Besides, the Rust's counts, and whether each picture is left to the second program."""
+    planes, counts = oracle(pictures)
+    second, says = oracle(pictures, "second")
+    numbers = set(map(int, says.split()))
+    left = [number in numbers for number in range(1, len(pictures) + 1)]
+    for number, (own, other, parts) in enumerate(zip(planes, second, left), 1):
+        assert parts or own == other, f"the second program and the Rust differ on accepted picture {number}"
+    return [other if parts else own for own, other, parts in zip(planes, second, left)], counts, left
 
 
 def expected(pictures):
-    """For each picture (None for a short record) its answer, output planes and line; and the oracle's counts."""
+    """For each picture (None for a short record) its answer, output planes and line; and what was counted."""
     answers = [None if picture is None else verdict(picture) for picture in pictures]
-    filtered, counts = oracle([picture for picture, answer in zip(pictures, answers) if answer == (0, 0)])
+    filtered, counts, left = decided([picture for picture, answer in zip(pictures, answers) if answer == (0, 0)])
     filtered = iter(filtered)
     found = []
     for number, (picture, answer) in enumerate(zip(pictures, answers), 1):
@@ -151,7 +165,7 @@ def expected(pictures):
             continue
         planes = next(filtered) if answer == (0, 0) else [[JUNK] * length for length in picture.out_lengths]
         found.append((answer, planes, line(number, answer, planes)))
-    return found, counts
+    return found, f"{counts}; left to the second program: {sum(left)}"
 
 
 def tally(lines):

@@ -4,8 +4,8 @@
     pictures.py          writes stdin and stdout of crates/picture_cases, and oracle/pictures.txt
     pictures.py --check  says whether those files are what it would write
 
-The planes of accepted pictures are the oracle's (run build.sh first), the numbers and places of refusals
-those of ledger.py. Every case says which number and place it expects, and some what the planes hold; the
+The planes of accepted pictures are the oracle's, or where the Rust does not decide the second program's (run
+build.sh first), the numbers and places of refusals those of ledger.py. Every case says which number and place it expects, and some what the planes hold; the
 script stops where they are not so. pictures.txt lists the records: number, answer, name.
 """
 
@@ -13,7 +13,7 @@ import sys
 
 sys.dont_write_bytecode = True
 
-from chroma_pictures import averages, check_parting, parting, qpc_ends, tc_ends
+from chroma_pictures import averages, check_parting, far_ends, parting, qpc_ends, tc_ends
 from ledger import SCALES
 from picture_case import Case, edges, moves, same_as, stays
 from picture_records import HORIZONTAL, LOSSLESS, PCM, VERTICAL, Picture, expected, random_picture, tally, unpack
@@ -463,7 +463,7 @@ def several_faults():
 
 GROUPS = [figures, tile_figures, band_figures, formats_and_depths, sizes, tiles, slices, suppressed, quantizers,
           parting, strengths, largest_samples, at_random, settings, lengths, slice_records, tile_starts, cells, samples,
-          several_faults, tc_ends, qpc_ends, averages, example]
+          several_faults, tc_ends, qpc_ends, averages, far_ends, example]
 
 
 def check_bands(cases, found):

@@ -5,9 +5,9 @@
 
 REAL is the folder of real pictures, by default ../shared/real seen from the repository's root. The
 fingerprints are of the planes in it, which another decoder filtered, and not of the oracle's or the stage's;
-where the oracles are built, they must give the same, with the clip of the chroma index to 57 and without. A
-thirteenth picture has indices above 57 and is not stored: of it only the oracle without the clip gives that
-decoder's planes. The script stops where the other gives another difference than docs/DIFFERENCES.md says.
+where the oracles are built, they must give the same: of the first twelve the Rust and the second program, of the
+thirteenth, which has chroma indices above 57 in 4:2:0, the second program, and the Rust without its clip. The
+script stops where the Rust gives another difference there than docs/DIFFERENCES.md says.
 """
 
 import gzip
@@ -18,12 +18,12 @@ from pathlib import Path
 sys.dont_write_bytecode = True
 
 from ledger import verdict
-from picture_records import line, oracle, unpack
+from picture_records import decided, line, oracle, unpack
 from stored import HOW, ROOT, oracle_path, stop, store
 
 REAL = ROOT / ".." / "shared" / "real"
-COUNT = 12
-# 4:2:0 with chroma indices above 57 (docs/DIFFERENCES.md, 1).
+COUNT = 13
+# 4:2:0 with chroma indices above 57 (docs/DIFFERENCES.md, 1); stored last.
 PARTING = "clip_q51_p12_p9_tcm4_001"
 
 
@@ -51,19 +51,21 @@ def positions_differing(picture, planes, others):
             for plane in range(3)]
 
 
-def parting(folder):
-    """Where the oracle's planes are not libde265's, which the oracle without the clip gives sample for sample."""
-    if not (folder / f"{PARTING}.sheet.gz").exists():
-        return f"{PARTING} is not in the folder"
-    _, picture, planes = read(folder, PARTING)
+def parting(picture, planes):
+    """Where the Rust's planes are not the expected ones of the thirteenth picture."""
     (clipped,), _ = oracle([picture])
-    (unclipped,), _ = oracle([picture], "unclipped")
-    assert unclipped == planes
     luma, cb, cr = positions_differing(picture, clipped, planes)
     edge = [(x, y) for y in (47, 48) for x in range(7)]
     assert (luma, cb, cr) == ([], edge, edge), (luma, cb, cr)
-    return (f"{PARTING}: {len(cb)} samples of Cb and {len(cr)} of Cr differ from libde265's,"
-            " none without the clip of the chroma index")
+    return f"{PARTING}: the Rust differs in {len(cb)} samples of Cb and {len(cr)} of Cr, not without its clip"
+
+
+def check_oracles(pictures, wanted):
+    """All oracles beside the expected planes; what to say of it."""
+    planes, counts, left = decided(pictures)
+    assert left == [False] * (COUNT - 1) + [True]
+    assert planes == wanted and oracle(pictures, "unclipped")[0] == wanted
+    return [counts, parting(pictures[-1], wanted[-1])]
 
 
 def main():
@@ -76,16 +78,13 @@ def main():
     if not folder.is_dir():
         stop(f"{folder} is missing: run oracle/real_pictures.py [--check] REAL, the folder of the real pictures")
 
-    names = sorted({path.name.removesuffix(".sheet.gz") for path in folder.glob("*.sheet.gz")} - {PARTING})
-    if len(names) != COUNT:
-        stop(f"{folder}: {len(names)} real pictures, not {COUNT}")
+    names = sorted({path.name.removesuffix(".sheet.gz") for path in folder.glob("*.sheet.gz")} - {PARTING}) + [PARTING]
+    if len(names) != COUNT or not (folder / f"{PARTING}.sheet.gz").exists():
+        stop(f"{folder}: other real pictures than the {COUNT} that are stored, {PARTING} among them")
     found = [read(folder, name) for name in names]
     says = [f"not compared with the oracle, which is not built: {HOW}"]
     if oracle_path("picture").exists():
-        pictures, wanted = [picture for _, picture, _ in found], [planes for _, _, planes in found]
-        planes, counts = oracle(pictures)
-        assert planes == wanted and oracle(pictures, "unclipped")[0] == wanted
-        says = [counts, parting(folder)]
+        says = check_oracles([picture for _, picture, _ in found], [planes for _, _, planes in found])
     lines = [line(number, (0, 0), planes) for number, (_, _, planes) in enumerate(found, 1)]
     files = {"crates/real_pictures/stdin": b"".join(data for data, _, _ in found),
              "crates/real_pictures/stdout": "".join(lines).encode()}

@@ -4,9 +4,10 @@
     tiles.py          writes stdin and stdout of crates/tile_cases, and oracle/tiles.txt
     tiles.py --check  says whether those files are what it would write
 
-The samples of a tile are taken out of the oracle's planes of the whole picture (run build.sh first); numbers and places of refusals
-are those of ledger.py. The script cuts each tile out by itself, as document 01's 'The cut' has it, and stops where the oracle filters
-the cut otherwise than the tile in its picture: what is stored was found in two ways. tiles.txt lists the records: number, answer, name.
+The samples of a tile are taken out of the oracle's planes of the whole picture, or where the Rust does not decide of the second
+program's (run build.sh first); numbers and places of refusals are those of ledger.py. The script cuts each tile out by itself, as
+document 01's 'The cut' has it, and stops where the cut is filtered otherwise than the tile in its picture: what is stored was found in
+two ways. tiles.txt lists the records: number, answer, name.
 """
 
 import sys
@@ -15,7 +16,7 @@ sys.dont_write_bytecode = True
 
 from ledger import SCALES, verdict
 from picture_case import Case, moves, stays
-from picture_records import HORIZONTAL, LOSSLESS, PCM, VERTICAL, Picture, fingerprint, oracle, random_picture
+from picture_records import HORIZONTAL, LOSSLESS, PCM, VERTICAL, Picture, decided, fingerprint, random_picture
 from pictures import FAR, FAULTS, colour, example, restored, step_at, t1
 from records import Random
 from stored import is_checking, store
@@ -261,10 +262,10 @@ GROUPS = [figures, grids, many, twins, refusals, example]
 
 
 def check_cuts(accepted):
-    """The oracle filters each cut as it filters the tile in its picture."""
+    """Each cut is filtered as the tile in its picture."""
     cuts = [(case, planes, i, j, cut(case.picture, i, j)) for case, planes in accepted for i, j in tiles_of(case.picture)]
     assert all(verdict(alone) == (0, 0) for *_, alone in cuts)
-    filtered, _ = oracle([alone for *_, alone in cuts])
+    filtered, *_ = decided([alone for *_, alone in cuts])
     for (case, planes, i, j, _), own in zip(cuts, filtered):
         assert own == tile_planes(case.picture, planes, i, j), (case.name, i, j)
     return len(cuts)
@@ -280,7 +281,7 @@ def opened(picture):
 def check_borders(accepted):
     """The tiles matter: as one tile, each picture is filtered otherwise; a marked one in every plane that has an edge on a border."""
     tiled = [(case, planes) for case, planes in accepted if len(tiles_of(case.picture)) > 1]
-    filtered, _ = oracle([opened(case.picture) for case, _ in tiled])
+    filtered, *_ = decided([opened(case.picture) for case, _ in tiled])
     for (case, planes), other in zip(tiled, filtered):
         assert planes[0] != other[0], case.name
         for plane in range(3 if case.picture.format else 1):
@@ -306,7 +307,7 @@ def main():
     cases = [case for group in GROUPS for case in group()]
     for case in cases:
         assert verdict(case.picture) == case.answer, (case.name, case.answer, verdict(case.picture))
-    filtered, counts = oracle([case.picture for case in cases if case.answer == (0, 0)])
+    filtered, counts, left = decided([case.picture for case in cases if case.answer == (0, 0)])
     accepted = list(zip([case for case in cases if case.answer == (0, 0)], filtered))
     for case, planes in accepted:
         case.look_at(planes)
@@ -323,7 +324,8 @@ def main():
              "oracle/tiles.txt": "".join(f"{number:3}  {answer:6}  {name}\n"
                                          for number, (answer, name) in enumerate(names, 1)).encode()}
     store(files, checking)
-    print(f"{len(cases)} pictures, {len(accepted)} accepted, {tiles} tiles; {len(files['crates/tile_cases/stdin'])} bytes; {counts}")
+    print(f"{len(cases)} pictures, {len(accepted)} accepted, {tiles} tiles; {len(files['crates/tile_cases/stdin'])} bytes; {counts};"
+          f" left to the second program: {sum(left)}")
 
 
 if __name__ == "__main__":

@@ -1,19 +1,19 @@
 -- The chroma threshold one row past both ends of the tc table: rows -1, 0, 52, 53 and 54 before the clip, in each
 -- chroma format, for Cb and for Cr by its own offset. Row 53 is the last; row 52 is there to show that it is not read
--- in its place.
+-- in its place. And the chroma indices 57, 58 and 63 of 4:2:0, for Cb and for Cr (document 02, C-17).
 use Prim.Native.Nat.{ℕ, _+_}
 use mathlib.Core.Path.{_≡_, refl}
 use mathlib.Core.Bool.{false, true}
 use mathlib.Core.List.{List, [], _∷_, map}
 use lib.IntN.{ℤ, pos}
-use Rattle.ints.specs.Int.{_⊖_, _⊞_, _⊟_, neg, _⊠_, lt, _>>_, clip3, natOf}
+use Rattle.ints.specs.Int.{_⊖_, _⊞_, _⊟_, _⊠_, lt, _>>_, clip3, natOf}
 use Rattle.filter.specs.Kernel.{tcOf}
 use Rattle.filter.specs.Segment.{chromaFilter, filterOf}
 use Rattle.picture.specs.declared.Cell.{Cell}
 use Rattle.picture.specs.declared.Slice.{Slice}
 use Rattle.picture.specs.Picture.{Settings}
 use Rattle.picture.specs.Scale.{Component, Y, Cb, Cr}
-use Rattle.thresholds.specs.Chroma.{clippedIndex, tableQpc, mappedQp, chromaQp, chromaTc}
+use Rattle.thresholds.specs.Chroma.{tableQpc, chromaQp, chromaTc}
 use Rattle.thresholds.specs.Luma.{averageQp, tcIndex, scaled}
 use Rattle.thresholds.specs.Tables.{TC, QPC}
 
@@ -59,7 +59,17 @@ pub chroma-ends :
     (halved Cb ≡ ends) × (halved Cr ≡ ends)
     × (others 2 Cb ≡ ends) × (others 2 Cr ≡ ends)
     × (others 3 Cb ≡ ends) × (others 3 Cr ≡ ends)
-unfolding settings tcAt halved others chromaFilter chromaTc chromaQp clippedIndex mappedQp tableQpc averageQp tcIndex
+unfolding settings tcAt halved others chromaFilter chromaTc chromaQp tableQpc averageQp tcIndex
     scaled TC QPC
-    _⊖_ _⊞_ _⊟_ neg _⊠_ lt _>>_ clip3 natOf
+    _⊖_ _⊞_ _⊟_ _⊠_ lt _>>_ clip3 natOf
 chroma-ends = (refl, refl, refl, refl, refl, refl)
+
+-- 4:2:0, offset 12, tc div2 -6: the indices 57, 58 and 63 give the chroma QPs 51, 52 and 57, and tc rows 41, 42 and 47
+pub highest : Component → List ℕ
+highest c = map (tcAt 1 c (pos 12)) (read 45 0 ∷ read 46 0 ∷ read 51 0 ∷ [])
+
+pub chroma-highest : (highest Cb ≡ 6 ∷ 7 ∷ 13 ∷ []) × (highest Cr ≡ 6 ∷ 7 ∷ 13 ∷ [])
+unfolding settings tcAt highest chromaFilter chromaTc chromaQp tableQpc averageQp tcIndex
+    scaled TC QPC
+    _⊖_ _⊞_ _⊟_ _⊠_ lt _>>_ clip3 natOf
+chroma-highest = (refl, refl)

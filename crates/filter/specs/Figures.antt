@@ -40,7 +40,7 @@ pub data Figure : Type 0 where
   segment : ℕ → LumaDecision → Line → Figure
   -- two QPs and their average
   average : ℤ → ℤ → ℤ → Figure
-  -- chroma format, index, chroma QP (at depth 8)
+  -- chroma format, index, chroma QP
   chromaQps : ℕ → ℤ → ℤ → Figure
   -- both QPs, tC at format 1 and offsets 0, a chroma line, the line after filtering
   chroma : ℤ → ℕ → ChromaLine → ChromaLine → Figure
@@ -54,7 +54,7 @@ Given (segment q d out) =
     (caseOf (decision segmentBeta segmentTc (step q) (step q)) ≡ d)
     × (lumaLine (decision segmentBeta segmentTc (step q) (step q)) 255 segmentTc (step q) ≡ out)
 Given (average p q a) = averageQp p q ≡ a
-Given (chromaQps format i qp) = chromaQp format 8 i ≡ qp
+Given (chromaQps format i qp) = chromaQp format i ≡ qp
 Given (chroma qp tc l out) =
     (chromaTc 1 8 (averageQp qp qp) (pos 0) (pos 0) ≡ tc) × (chromaLine 255 tc l ≡ out)
 Given (bands height size ends) = horizontalBands height size ≡ ends

@@ -2,11 +2,13 @@
 -- past an end: `beta_row`, `tc_row` and `qpc_row` require an index inside their table.
 use mathlib.Core.Path.{_≡_, refl}
 use lib.ListN.{length}
-use lib.IntN.{pos, negsuc}
+use lib.IntN.{ℤ, pos, negsuc}
+use lib.Signed.{_≤ℤ_}
 use Rattle.ints.specs.Int.{_⊞_, _⊟_, neg, _⊠_, lt, clip3, natOf}
 use Rattle.thresholds.specs.Tables.{BETA, TC, QPC}
-use Rattle.thresholds.specs.Luma.{betaIndex, tcIndex, scaled, lumaBeta, lumaTc}
-use Rattle.thresholds.specs.Chroma.{clippedIndex, tableQpc, mappedQp, chromaQp, chromaTc}
+use Rattle.thresholds.specs.Luma.{averageQp, betaIndex, tcIndex, scaled, lumaBeta, lumaTc}
+use Rattle.thresholds.specs.Chroma.{tableQpc, chromaQp, chromaTc}
+use Rattle.thresholds.proofs.Facts.{average-least, average-most, sum-least, sum-most}
 
 pub rows : (length BETA ≡ 52) × (length TC ≡ 54) × (length QPC ≡ 14)
 unfolding BETA TC QPC
@@ -48,7 +50,7 @@ pub tc-values :
 unfolding lumaTc tcIndex scaled TC natOf clip3 lt _⊞_ _⊟_ _⊠_
 tc-values = (refl, refl, refl, refl, refl)
 
--- table 8-10 at 29, 30, 43 and 44; the clip at 57 and 58, and below zero at depths 8 and 10
+-- table 8-10 at 29, 30, 43 and 44
 pub qpc-ends :
     (tableQpc (pos 29) ≡ pos 29)
     × (tableQpc (pos 30) ≡ pos 29)
@@ -57,23 +59,40 @@ pub qpc-ends :
 unfolding tableQpc QPC natOf lt _⊟_
 qpc-ends = (refl, refl, refl, refl)
 
-pub clip-ends :
-    (chromaQp 1 8 (pos 57) ≡ pos 51)
-    × (chromaQp 1 8 (pos 58) ≡ pos 51)
-    × (chromaQp 1 8 (negsuc 0) ≡ pos 0)
-    × (chromaQp 1 10 (negsuc 11) ≡ negsuc 11)
-    × (chromaQp 1 10 (negsuc 12) ≡ negsuc 11)
-unfolding chromaQp clippedIndex mappedQp tableQpc QPC natOf clip3 lt neg _⊟_
-clip-ends = (refl, refl, refl, refl, refl)
+-- The chroma indices that can occur are -60, of QPs -48 (depth 16) and offset -12, to 63, of QPs 51 and offset 12. The
+-- chroma QP at both, and in format 1 also where the Rust's clip was, at 57 and 58.
+pub index-least : (qpP qpQ cQpPicOffset : ℤ)
+    → neg (pos 48) ≤ℤ qpP → neg (pos 48) ≤ℤ qpQ → neg (pos 12) ≤ℤ cQpPicOffset
+    → neg (pos 60) ≤ℤ (averageQp qpP qpQ ⊞ cQpPicOffset)
+index-least p q o hp hq ho = sum-least 48 12 _ o (average-least 48 p q hp hq) ho
 
--- formats 2 and 3 at 50, 51, 52 and 58
+pub index-most : (qpP qpQ cQpPicOffset : ℤ)
+    → qpP ≤ℤ pos 51 → qpQ ≤ℤ pos 51 → cQpPicOffset ≤ℤ pos 12
+    → (averageQp qpP qpQ ⊞ cQpPicOffset) ≤ℤ pos 63
+index-most p q o hp hq ho = sum-most 51 12 _ o (average-most 51 p q hp hq) ho
+
+pub index-ends :
+    (chromaQp 1 (neg (pos 60)) ≡ neg (pos 60))
+    × (chromaQp 1 (pos 57) ≡ pos 51)
+    × (chromaQp 1 (pos 58) ≡ pos 52)
+    × (chromaQp 1 (pos 63) ≡ pos 57)
+unfolding chromaQp tableQpc lt neg _⊟_
+index-ends = (refl, refl, refl, refl)
+
+-- formats 2 and 3 at -60, 50, 51, 52 and 63
 pub other-ends :
-    (chromaQp 2 8 (pos 50) ≡ pos 50)
-    × (chromaQp 2 8 (pos 51) ≡ pos 51)
-    × (chromaQp 3 8 (pos 52) ≡ pos 51)
-    × (chromaQp 3 8 (pos 58) ≡ pos 51)
-unfolding chromaQp clippedIndex mappedQp clip3 lt neg
-other-ends = (refl, refl, refl, refl)
+    (chromaQp 2 (neg (pos 60)) ≡ neg (pos 60))
+    × (chromaQp 2 (pos 50) ≡ pos 50)
+    × (chromaQp 2 (pos 51) ≡ pos 51)
+    × (chromaQp 2 (pos 52) ≡ pos 51)
+    × (chromaQp 2 (pos 63) ≡ pos 51)
+    × (chromaQp 3 (neg (pos 60)) ≡ neg (pos 60))
+    × (chromaQp 3 (pos 50) ≡ pos 50)
+    × (chromaQp 3 (pos 51) ≡ pos 51)
+    × (chromaQp 3 (pos 52) ≡ pos 51)
+    × (chromaQp 3 (pos 63) ≡ pos 51)
+unfolding chromaQp lt neg
+other-ends = (refl, refl, refl, refl, refl, refl, refl, refl, refl, refl)
 
 -- tC of chroma in each format, of the tc indices -1, 0, 53 and 54 before the clip; at depth 16 last.
 -- Format 1 has chroma QP 51 and 50 at qPi 57 and 56, so Cb and Cr offsets 6 and 5 there.
@@ -83,8 +102,18 @@ pub chroma-values :
     × (chromaTc 1 8 (pos 51) (pos 6) (pos 0) ≡ 24)
     × (chromaTc 1 8 (pos 51) (pos 5) (pos 1) ≡ 24)
     × (chromaTc 1 16 (pos 51) (pos 5) (pos 1) ≡ 6144)
-unfolding chromaTc chromaQp clippedIndex mappedQp tableQpc tcIndex scaled TC QPC natOf clip3 lt neg _⊞_ _⊟_ _⊠_
+unfolding chromaTc chromaQp tableQpc tcIndex scaled TC QPC natOf clip3 lt _⊞_ _⊟_ _⊠_
 chroma-values = (refl, refl, refl, refl, refl)
+
+-- The same at the chroma indices -60 and 63: the least and the largest tc index, -70 and 71; 53 and 54 of 63 and of 62.
+pub far-values :
+    (chromaTc 1 8 (neg (pos 48)) (neg (pos 12)) (neg (pos 6)) ≡ 0)
+    × (chromaTc 1 8 (pos 51) (pos 12) (negsuc 2) ≡ 24)
+    × (chromaTc 1 8 (pos 51) (pos 11) (negsuc 1) ≡ 24)
+    × (chromaTc 1 8 (pos 51) (pos 12) (pos 6) ≡ 24)
+    × (chromaTc 1 16 (pos 51) (pos 12) (pos 6) ≡ 6144)
+unfolding chromaTc chromaQp tableQpc tcIndex scaled TC QPC natOf clip3 lt neg _⊞_ _⊟_ _⊠_
+far-values = (refl, refl, refl, refl, refl)
 
 pub other-chroma-values :
     (chromaTc 2 8 (pos 3) (pos 0) (negsuc 2) ≡ 0)
@@ -97,5 +126,5 @@ pub other-chroma-values :
     × (chromaTc 3 8 (pos 51) (pos 0) (pos 0) ≡ 24)
     × (chromaTc 3 8 (pos 50) (pos 0) (pos 1) ≡ 24)
     × (chromaTc 3 16 (pos 50) (pos 0) (pos 1) ≡ 6144)
-unfolding chromaTc chromaQp clippedIndex mappedQp tcIndex scaled TC natOf clip3 lt neg _⊞_ _⊟_ _⊠_
+unfolding chromaTc chromaQp tcIndex scaled TC natOf clip3 lt _⊞_ _⊟_ _⊠_
 other-chroma-values = (refl, refl, refl, refl, refl, refl, refl, refl, refl, refl)

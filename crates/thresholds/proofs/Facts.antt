@@ -1,7 +1,7 @@
 -- The definitions at biased naturals, in naturals: what the code's numbers put together.
-use Prim.Native.Nat.{ℕ, _+_, _*_, _-_, _/_, _^_, _≤_, _<_, min, max}
+use Prim.Native.Nat.{ℕ, _+_, _*_, _-_, _/_, _^_, _≤_, _<_, min}
 use mathlib.Core.Path.{_≡_, sym, _∙_, ap}
-use mathlib.Core.Bool.{cond}
+use mathlib.Core.Bool.{false, cond}
 use mathlib.Core.Logic.{_⊎_, inl, inr}
 use native.Mathlib.Omega.{arith}
 use native.Mathlib.Nat.{mul-le-mul}
@@ -9,8 +9,9 @@ use lib.Dec.{ltb}
 use lib.ListN.{getD}
 use lib.Pow.{pow-mono}
 use lib.IntN.{ℤ, pos}
-use borrow.Author.Tests.{lt-ltb, le-ltb, eq-eqb, ne-eqb}
-use Rattle.ints.specs.Int.{_⊖_, _⊞_, _⊟_, lt, clip3, natOf}
+use lib.Signed.{_≤ℤ_}
+use borrow.Author.Tests.{ltb-false, lt-ltb, le-ltb, eq-eqb, ne-eqb}
+use Rattle.ints.specs.Int.{_⊖_, _⊞_, _⊟_, neg, lt, clip3, natOf}
 use Rattle.ints.proofs.Laws.{
   diffs,
   diff-eq,
@@ -20,20 +21,26 @@ use Rattle.ints.proofs.Laws.{
   plus-diff,
   lt-pos,
   pos-lt,
+  lt-diff,
+  le-lt,
+  lt-false,
+  by-diff,
   either,
-  clip-diff,
   clip-index-is,
 }
 use Rattle.thresholds.specs.Tables.{BETA, TC, QPC}
 use Rattle.thresholds.specs.Luma.{averageQp, betaIndex, tcIndex, scaled, lumaBeta, lumaTc}
-use Rattle.thresholds.specs.Chroma.{clippedIndex, tableQpc, mappedQp, chromaQp, chromaTc}
+use Rattle.thresholds.specs.Chroma.{tableQpc, chromaQp, chromaTc}
 
 -- ---- indices
 
--- the floor of half the sum of two QPs, of bytes that are 64 more
-pub average-is : (p q : ℕ) → ((p + q + 1) / 2) ⊖ 64 ≡ averageQp (p ⊖ 64) (q ⊖ 64)
+-- the floor of half the sum of two QPs, of any two; and of bytes that are 64 more
+pub average-diff : (a b c d : ℕ) → averageQp (a ⊖ b) (c ⊖ d) ≡ ((a + c + 1 + (b + d)) / 2) ⊖ (b + d)
 unfolding averageQp
-average-is p q = simp diffs (sym (shr-diff 64 1 _ _ (omega arith) ∙ diff-eq _ _ _ _ (omega arith)))
+average-diff a b c d = simp diffs (shr-diff (b + d) 1 _ _ (omega arith) ∙ diff-eq _ _ _ _ (omega arith))
+
+pub average-is : (p q : ℕ) → ((p + q + 1) / 2) ⊖ 64 ≡ averageQp (p ⊖ 64) (q ⊖ 64)
+average-is p q = sym (average-diff p 64 q 64 ∙ diff-eq _ _ _ _ (omega arith))
 
 -- Clip3(0, m, z) where z is e - f
 clipped : (m e f : ℕ) {z : ℤ} → z ≡ e ⊖ f → natOf (clip3 (pos 0) (pos m) z) ≡ min m (e - f)
@@ -43,10 +50,10 @@ beta-is : (a o : ℕ) → betaIndex (a ⊖ 64) (o ⊖ 6) ≡ min 51 (a + 2 * o -
 unfolding betaIndex
 beta-is a o = clipped 51 _ 76 (simp diffs (diff-eq _ _ _ _ (omega arith)))
 
--- for a QP that is held b more
-tc-is : (b a s o : ℕ) → tcIndex (a ⊖ b) (pos s) (o ⊖ 6) ≡ min 53 (a + 2 * s + 2 * o - (b + 14))
+-- for a QP that is held b more, and a slice's offset that is held e more
+pub tc-is : (b a s e o : ℕ) → tcIndex (a ⊖ b) (pos s) (o ⊖ e) ≡ min 53 (a + 2 * s + 2 * o - (b + 2 + 2 * e))
 unfolding tcIndex
-tc-is b a s o = clipped 53 _ (b + 14) (simp diffs (diff-eq _ _ _ _ (omega arith)))
+tc-is b a s e o = clipped 53 _ (b + 2 + 2 * e) (simp diffs (diff-eq _ _ _ _ (omega arith)))
 
 -- a table's value at depth 16 at most fits 16 bits
 pub scaled-small : {d v : ℕ} → d ≤ 16 → v ≤ 64 → scaled d v < 65536
@@ -56,22 +63,61 @@ scaled-small {d} {v} hd hv =
     let m : v * 2 ^ (d - 8) ≤ 64 * 2 ^ 8 = mul-le-mul hv p in
     omega arith
 
--- ---- the chroma QP, held 76 more
+-- ---- bounds of an integer, in naturals
 
-pub index-is : {d r : ℕ} (i : ℕ) → d ≤ 16 → r ≡ max (76 - 6 * (d - 8)) (min 133 i) → r ⊖ 76 ≡ clippedIndex d (i ⊖ 76)
-unfolding clippedIndex
-index-is {d} i h e =
-    let low : ℕ = 6 * (d - 8) in
-    rw e (simp diffs (sym (clip-diff 0 low 57 0 i 76 (omega arith) ∙ diff-eq _ _ _ _ (omega arith))))
+pub at-most : (m c e : ℕ) → (c ⊖ e) ≤ℤ pos m → c ≤ m + e
+at-most m c e h = ltb-false (m + e) c (sym (pos-lt m c e) ∙ le-lt (pos m) (c ⊖ e) h)
+
+pub not-below : (m c e : ℕ) → pos m ≤ℤ (c ⊖ e) → m + e ≤ c
+not-below m c e h = ltb-false c (m + e) (sym (lt-pos c e m) ∙ le-lt (c ⊖ e) (pos m) h)
+
+pub at-least : (m c e : ℕ) → neg (pos m) ≤ℤ (c ⊖ e) → e ≤ c + m
+at-least m c e h =
+    let test : lt (c ⊖ e) (0 ⊖ m) ≡ false = simp diffs at (le-lt (c ⊖ e) (neg (pos m)) h) in
+    omega (arith, ltb-false (c + m) (0 + e) (sym (lt-diff c e 0 m) ∙ test))
+
+most : (m c e : ℕ) → c ≤ m + e → (c ⊖ e) ≤ℤ pos m
+most m c e h = lt-false (pos m) (c ⊖ e) (pos-lt m c e ∙ le-ltb (m + e) c h)
+
+least : (m c e : ℕ) → e ≤ c + m → neg (pos m) ≤ℤ (c ⊖ e)
+least m c e h = lt-false (c ⊖ e) (neg (pos m)) (simp diffs (lt-diff c e 0 m ∙ le-ltb (c + m) (0 + e) (omega arith)))
+
+-- what holds of all pairs of differences holds of all pairs of integers
+pub by-diffs : (P : ℤ → ℤ → Type 0) → ((a b c d : ℕ) → P (a ⊖ b) (c ⊖ d)) → (x y : ℤ) → P x y
+by-diffs P f x y = by-diff (λ x. P x y) (λ a b. by-diff (P (a ⊖ b)) (f a b) y) x
+
+pub sum-most : (m n : ℕ) (x y : ℤ) → x ≤ℤ pos m → y ≤ℤ pos n → (x ⊞ y) ≤ℤ pos (m + n)
+sum-most m n =
+    by-diffs (λ x y. x ≤ℤ pos m → y ≤ℤ pos n → (x ⊞ y) ≤ℤ pos (m + n))
+    (λ a b c d hx hy. simp plus-diff (most (m + n) (a + c) (b + d) (omega (arith, at-most _ _ _ hx, at-most _ _ _ hy))))
+
+pub sum-least : (m n : ℕ) (x y : ℤ) → neg (pos m) ≤ℤ x → neg (pos n) ≤ℤ y → neg (pos (m + n)) ≤ℤ (x ⊞ y)
+sum-least m n =
+    by-diffs (λ x y. neg (pos m) ≤ℤ x → neg (pos n) ≤ℤ y → neg (pos (m + n)) ≤ℤ (x ⊞ y))
+    (λ a b c d hx hy. simp plus-diff (least (m + n) (a + c) (b + d) (omega (arith, at-least _ _ _ hx, at-least _ _ _ hy))))
+
+pub average-most : (m : ℕ) (p q : ℤ) → p ≤ℤ pos m → q ≤ℤ pos m → averageQp p q ≤ℤ pos m
+average-most m =
+    by-diffs (λ p q. p ≤ℤ pos m → q ≤ℤ pos m → averageQp p q ≤ℤ pos m)
+    (λ a b c d hp hq. rw average-diff (most m _ (b + d) (omega (arith, at-most _ _ _ hp, at-most _ _ _ hq))))
+
+pub average-least : (m : ℕ) (p q : ℤ) → neg (pos m) ≤ℤ p → neg (pos m) ≤ℤ q → neg (pos m) ≤ℤ averageQp p q
+average-least m =
+    by-diffs (λ p q. neg (pos m) ≤ℤ p → neg (pos m) ≤ℤ q → neg (pos m) ≤ℤ averageQp p q)
+    (λ a b c d hp hq. rw average-diff (least m _ (b + d) (omega (arith, at-least _ _ _ hp, at-least _ _ _ hq))))
+
+-- ---- the chroma QP, held 76 more
 
 pub table-low : {i : ℕ} → i < 106 → i ⊖ 76 ≡ tableQpc (i ⊖ 76)
 unfolding tableQpc
 table-low {i} h = simp (lt-pos, lt-ltb i 106 h)
 
-pub table-high : {i : ℕ} → 119 < i → (i - 6) ⊖ 76 ≡ tableQpc (i ⊖ 76)
+-- for an index that is held b more
+pub table-high : (b : ℕ) {i : ℕ} → 43 + b < i → (i - 6) ⊖ b ≡ tableQpc (i ⊖ b)
 unfolding tableQpc
-table-high {i} h =
-    simp (lt-pos, pos-lt, le-ltb i 106 (omega arith), lt-ltb 119 i h) (simp diffs (diff-eq _ _ _ _ (omega arith)))
+table-high b {i} h =
+    simp (lt-pos, pos-lt, le-ltb i (30 + b) (omega arith), lt-ltb (43 + b) i h)
+    (simp diffs (diff-eq _ _ _ _ (omega arith)))
 
 pub table-row : {i r : ℕ} → 106 ≤ i → i ≤ 119 → r ≡ getD QPC (i - 106) 0 → (r + 76) ⊖ 76 ≡ tableQpc (i ⊖ 76)
 unfolding tableQpc
@@ -79,24 +125,20 @@ table-row {i} {r} l h e =
     let n : natOf (i ⊖ 76 ⊟ pos 30) ≡ i - 106 = simp (diffs, nat-diff) (omega arith) in
     simp (lt-pos, pos-lt, le-ltb i 106 l, le-ltb 119 i h, n) (simp pos-diff (diff-eq _ _ _ _ (omega arith)))
 
-pub qpc-table : {f : ℕ} (d i k r : ℕ) → f ≡ 1 → k ⊖ 76 ≡ clippedIndex d (i ⊖ 76) → r ⊖ 76 ≡ tableQpc (k ⊖ 76)
-    → r ⊖ 76 ≡ chromaQp f d (i ⊖ 76)
-unfolding chromaQp mappedQp
-qpc-table {f} d i k r e ek er = simp (eq-eqb f 1 e) (er ∙ ap tableQpc ek)
+pub qpc-table : {f : ℕ} (i r : ℕ) → f ≡ 1 → r ⊖ 76 ≡ tableQpc (i ⊖ 76) → r ⊖ 76 ≡ chromaQp f (i ⊖ 76)
+unfolding chromaQp
+qpc-table {f} i r e er = simp (eq-eqb f 1 e) er
 
-least : (k : ℕ) → min k 127 ⊖ 76 ≡ cond (lt (k ⊖ 76) (pos 51)) (k ⊖ 76) (pos 51)
-least k = simp lt-pos (go (either k 127))
+at-51 : (k : ℕ) → min k 127 ⊖ 76 ≡ cond (lt (k ⊖ 76) (pos 51)) (k ⊖ 76) (pos 51)
+at-51 k = simp lt-pos (go (either k 127))
   where
     go : (k < 127) ⊎ (127 ≤ k) → min k 127 ⊖ 76 ≡ cond (ltb k 127) (k ⊖ 76) (pos 51)
     go (inl p) = simp (lt-ltb k 127 p) (diff-eq _ _ _ _ (omega arith))
     go (inr p) = simp (le-ltb k 127 p, pos-diff) (diff-eq _ _ _ _ (omega arith))
 
-pub qpc-other : {f r : ℕ} (d i k : ℕ) → (f ≡ 1 → ⊥) → k ⊖ 76 ≡ clippedIndex d (i ⊖ 76) → r ≡ min k 127
-    → r ⊖ 76 ≡ chromaQp f d (i ⊖ 76)
-unfolding chromaQp mappedQp
-qpc-other {f} d i k n ek er =
-    simp (ne-eqb f 1 n)
-    (ap (λ (m : ℕ). m ⊖ 76) er ∙ least k ∙ ap (λ (z : ℤ). cond (lt z (pos 51)) z (pos 51)) ek)
+pub qpc-other : {f r : ℕ} (i : ℕ) → (f ≡ 1 → ⊥) → r ≡ min i 127 → r ⊖ 76 ≡ chromaQp f (i ⊖ 76)
+unfolding chromaQp
+qpc-other {f} i n er = simp (ne-eqb f 1 n) (ap (λ (m : ℕ). m ⊖ 76) er ∙ at-51 i)
 
 -- ---- the thresholds, of a clipped index and its row
 
@@ -108,14 +150,14 @@ beta-made d a o eq ev er = er ∙ ap (scaled d) (ev ∙ ap (λ (k : ℕ). getD B
 pub tc-made : (d a s o : ℕ) {q v r : ℕ} → q ≡ min 53 (a + 2 * s + 2 * o - 78) → v ≡ getD TC q 0 → r ≡ scaled d v
     → r ≡ lumaTc d (a ⊖ 64) (pos s) (o ⊖ 6)
 unfolding lumaTc
-tc-made d a s o eq ev er = er ∙ ap (scaled d) (ev ∙ ap (λ (k : ℕ). getD TC k 0) (eq ∙ sym (tc-is 64 a s o)))
+tc-made d a s o eq ev er = er ∙ ap (scaled d) (ev ∙ ap (λ (k : ℕ). getD TC k 0) (eq ∙ sym (tc-is 64 a s 6 o)))
 
-pub chroma-made : (f d a p o i : ℕ) {q v r : ℕ} → i ⊖ 76 ≡ chromaQp f d ((a + p) ⊖ 76)
+pub chroma-made : (f d a p o i : ℕ) {q v r : ℕ} → i ⊖ 76 ≡ chromaQp f ((a + p) ⊖ 76)
     → q ≡ min 53 (i + 4 + 2 * o - 90) → v ≡ getD TC q 0 → r ≡ scaled d v
     → r ≡ chromaTc f d (a ⊖ 64) (p ⊖ 12) (o ⊖ 6)
 unfolding chromaTc
 chroma-made f d a p o i {q} ei eq ev er =
-    let qp : i ⊖ 76 ≡ chromaQp f d ((a ⊖ 64) ⊞ (p ⊖ 12)) = ei ∙ ap (chromaQp f d) (sym (plus-diff a 64 p 12)) in
-    let index : q ≡ tcIndex (chromaQp f d ((a ⊖ 64) ⊞ (p ⊖ 12))) (pos 2) (o ⊖ 6) =
-    eq ∙ sym (tc-is 76 i 2 o) ∙ ap (λ (z : ℤ). tcIndex z (pos 2) (o ⊖ 6)) qp in
+    let qp : i ⊖ 76 ≡ chromaQp f ((a ⊖ 64) ⊞ (p ⊖ 12)) = ei ∙ ap (chromaQp f) (sym (plus-diff a 64 p 12)) in
+    let index : q ≡ tcIndex (chromaQp f ((a ⊖ 64) ⊞ (p ⊖ 12))) (pos 2) (o ⊖ 6) =
+    eq ∙ sym (tc-is 76 i 2 6 o) ∙ ap (λ (z : ℤ). tcIndex z (pos 2) (o ⊖ 6)) qp in
     er ∙ ap (scaled d) (ev ∙ ap (λ (k : ℕ). getD TC k 0) index)

@@ -1,3 +1,4 @@
 pub mod Rows
 pub mod Facts
 pub mod Ends
+pub mod Readings

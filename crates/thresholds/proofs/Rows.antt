@@ -103,6 +103,13 @@ tc-small q = go (either q 54)
     go (inl h) = leb-true _ _ (passes (λ _ x. leb x 64) TC refl q h)
     go (inr h) = omega (arith, List·getD-eq-default TC 0 {n = q} h)
 
+-- the rows below 18 are 0
+pub tc-none : (q : ℕ) → q < 18 → getD TC q 0 ≡ 0
+unfolding TC
+tc-none q h =
+    let row = passes (λ k x. cond (ltb k 18) (eqb x 0) true) TC refl q (omega arith) in
+    eqb-true _ _ (simp (lt-ltb q 18 h) at row)
+
 pub tc-made : (q : ℕ) {w r : ℕ} → w ≡ wordOf TC (q / 8) → r ≡ w / 2 ^ (8 * (q % 8)) % 256 → r ≡ getD TC q 0
 tc-made q ew er = er ∙ rw ew (word-row TC (λ j. omega (arith, tc-small j)) q)
 

@@ -1,4 +1,5 @@
 pub mod Tables
 pub mod Luma
 pub mod Chroma
+pub mod Clipped
 pub mod Code

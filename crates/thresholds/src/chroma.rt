@@ -6,29 +6,12 @@ use crate::tables::tc_row;
 ghost use mathlib.Core.Path.{_≡_};
 ghost use Prim.Native.Nat.{_≤_};
 ghost use Rattle.ints.specs.Int.{_⊖_};
-ghost use Rattle.thresholds.specs.Chroma.{clippedIndex, tableQpc, chromaQp, chromaTc};
-
-// The index held to -6 * (depth - 8) .. 57.
-fn clip_qpi(depth: u32, index: u32) -> u32
-    requires { ⌜ (8 ≤ depth) × (depth ≤ 16) ⌝ }
-    ensures { λ r. ⌜ r ⊖ 76 ≡ clippedIndex depth (index ⊖ 76) ⌝ }
-    ensures { λ r. ⌜ r ≤ 133 ⌝ }
-{
-    let low = 76 - 6 * (depth - 8);
-    if index < low {
-        low
-    } else if 133 < index {
-        133
-    } else {
-        index
-    }
-}
+ghost use Rattle.thresholds.specs.Chroma.{tableQpc, chromaQp, chromaTc};
 
 // Table 8-10.
 fn table_qpc(index: u32) -> u32
-    requires { ⌜ index ≤ 133 ⌝ }
     ensures { λ r. ⌜ r ⊖ 76 ≡ tableQpc (index ⊖ 76) ⌝ }
-    ensures { λ r. ⌜ r ≤ 133 ⌝ }
+    ensures { λ r. ⌜ r ≤ index ⌝ }
 {
     if index < 106 {
         index
@@ -40,16 +23,14 @@ fn table_qpc(index: u32) -> u32
 }
 
 // The chroma QP of an index: format 1 by the table, the others at most 51.
-pub fn qpc(format: u32, depth: u32, index: u32) -> u32
-    requires { ⌜ (8 ≤ depth) × (depth ≤ 16) ⌝ }
-    ensures { λ r. ⌜ r ⊖ 76 ≡ chromaQp format depth (index ⊖ 76) ⌝ }
-    ensures { λ r. ⌜ r ≤ 133 ⌝ }
+pub fn qpc(format: u32, index: u32) -> u32
+    ensures { λ r. ⌜ r ⊖ 76 ≡ chromaQp format (index ⊖ 76) ⌝ }
+    ensures { λ r. ⌜ r ≤ index ⌝ }
 {
-    let clipped = clip_qpi(depth, index);
     if format == 1 {
-        return table_qpc(clipped);
+        return table_qpc(index);
     }
-    if clipped < 127 { clipped } else { 127 }
+    if index < 127 { index } else { 127 }
 }
 
 // tc of Cb or Cr, of an average QP, that component's picture offset and the tc offset of Q's slice; bS is 2
@@ -57,7 +38,7 @@ pub fn chroma_tc(format: u32, depth: u32, average: u8, pic: u8, offset: u8) -> u
     requires { ⌜ (8 ≤ depth) × (depth ≤ 16) ⌝ }
     ensures { λ r. ⌜ r ≡ chromaTc format depth (average ⊖ 64) (pic ⊖ 12) (offset ⊖ 6) ⌝ }
 {
-    let qp = qpc(format, depth, (average as u32) + (pic as u32));
+    let qp = qpc(format, (average as u32) + (pic as u32));
     let q = ints::clip_index(53, qp + 4 + 2 * (offset as u32), 90);
     scale(depth, tc_row(q as usize))
 }

@@ -2,7 +2,7 @@
 // list in the code would be laid out on the stack anew at each read. A row past a table's ends is refused by the
 // proof; the callers clip their index first.
 ghost use mathlib.Core.Path.{_≡_};
-ghost use Prim.Native.Nat.{_*_, _/_, _%_, _^_, _≤_, _<_};
+ghost use Prim.Native.Nat.{_+_, _*_, _/_, _%_, _^_, _≤_, _<_};
 ghost use lib.ListN.{getD};
 ghost use Rattle.thresholds.specs.Code.{wordOf};
 ghost use Rattle.thresholds.specs.Luma.{scaled};
@@ -59,7 +59,7 @@ pub(crate) fn tc_row(q: usize) -> u16
 pub(crate) fn qpc_row(q: usize) -> u32
     requires { ⌜ q < 14 ⌝ }
     ensures { λ r. ⌜ r ≡ getD QPC q 0 ⌝ }
-    ensures { λ r. ⌜ r ≤ 37 ⌝ }
+    ensures { λ r. ⌜ r ≤ 29 + q ⌝ }
 {
     if q < 4 {
         return (29 + q) as u32;

@@ -25,7 +25,7 @@ use Rattle.picture.specs.Plane.{at, table, rect, crop}
 use Rattle.picture.specs.Scale.{Y, Cb, Cr}
 use Rattle.picture.specs.Slice.{sliceAt}
 use Rattle.picture.specs.Tile.{sameTile, tileFirst, tileEnd}
-use Rattle.thresholds.specs.Chroma.{clippedIndex, tableQpc, mappedQp, chromaQp, chromaTc}
+use Rattle.thresholds.specs.Chroma.{tableQpc, chromaQp, chromaTc}
 use Rattle.thresholds.specs.Luma.{averageQp, betaIndex, tcIndex, scaled, lumaBeta, lumaTc}
 use Rattle.thresholds.specs.Tables.{BETA, TC, QPC}
 use Rattle.tiles_apart.specs.Term3.{AcceptedTile, Apart}
@@ -106,7 +106,7 @@ unfolding verdict cut tileEnd tileFirst crop rect outputs finished differences d
     clip3 abs natOf passOf restored finishedPlane kernel window pass slicesOpen gate lumaFilter chromaFilter between
     segmentAt activity dSam decision clip1 near strongLine delta0 sideDelta second weakBy weakLine lumaLine
     chromaDelta chromaLine cellAt suppressed at table sliceAt sameTile averageQp betaIndex tcIndex scaled lumaBeta
-    lumaTc clippedIndex tableQpc mappedQp chromaQp chromaTc BETA TC QPC
+    lumaTc tableQpc chromaQp chromaTc BETA TC QPC
 crossed = refl
 
 -- and the right tile, whatever it holds, does not move the left one

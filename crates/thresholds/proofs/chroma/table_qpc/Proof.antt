@@ -10,7 +10,7 @@ returns : tie.Need-returns
 returns c = (table-low (c .if1 .taken), omega arith)
 
 returns-2 : tie.Need-returns-2
-returns-2 c = (table-high (c .if2 .taken), omega arith)
+returns-2 c = (table-high 76 (c .if2 .taken), omega arith)
 
 returns-3 : tie.Need-returns-3
 returns-3 c =

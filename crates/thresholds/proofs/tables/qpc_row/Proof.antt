@@ -1,4 +1,4 @@
--- `qpc_row` meets its contract: the two formulas give the table, and neither is above 37.
+-- `qpc_row` meets its contract: the two formulas give the table, and neither is above 29 more than the row's number.
 -- Assumes nothing.
 use native.Mathlib.Omega.{arith}
 use Rattle.thresholds.proofs.Rows.{qpc-low, qpc-high}
