@@ -3,7 +3,7 @@
 mod common;
 
 use common::{edges, flat, run, samples};
-use tinladle::{Cell, Cells, ChromaFormat, PictureBuf, Settings};
+use tinladle::{Cell, Cells, ChromaFormat, PictureBuf, Settings, Slice};
 
 /// Name, QP, the Q side's value, the eight samples across the edge. The P side is 100.
 const SEGMENTS: [(&str, i32, u16, [u16; 8]); 6] = [
@@ -50,6 +50,25 @@ fn chroma_segments() {
         let out = run(&picture).unwrap();
         assert_eq!(out.cb, samples(16, 8, |x, _| line[x]), "{name}");
         assert_eq!((&out.cr, &out.y), (&out.cb, &picture.planes.y), "{name}");
+    }
+}
+
+/// QP and chroma tc at offset 12 and tc div2 -6, by document 02's C-17: the indices 57, 58 and 63 are lowered by 6 and
+/// not clipped, and read tc rows 41, 42 and 47.
+const HIGHEST: [(i32, u16); 3] = [(45, 6), (46, 7), (51, 13)];
+
+#[test]
+fn the_highest_chroma_indices_of_420_are_not_clipped() {
+    for (qp, tc) in HIGHEST {
+        let mut picture = flat(Settings::new(32, 16, ChromaFormat::Yuv420), edges(qp));
+        (picture.settings.cb_qp_offset, picture.settings.cr_qp_offset) = (12, 12);
+        picture.slices = Slice::new().tc_offset_div2(-6).unwrap().to_bytes().to_vec();
+        picture.planes.cb = samples(16, 8, |x, _| if x < 8 { 100 } else { 150 });
+        picture.planes.cr = picture.planes.cb.clone();
+        let line = [&[100; 7][..], &[100 + tc, 150 - tc], &[150; 7]].concat();
+        let out = run(&picture).unwrap();
+        assert_eq!(out.cb, samples(16, 8, |x, _| line[x]), "QP {qp}");
+        assert_eq!(out.cr, out.cb, "QP {qp}");
     }
 }
 
