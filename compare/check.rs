@@ -1,4 +1,4 @@
-//! One picture on both sides: the ledger and the stage, and where it is accepted the customer's Rust.
+//! One picture on both sides: the ledger and the stage, and where it is accepted the customer's Rust and the second program.
 
 use crate::counted::counted;
 use crate::coverage::Coverage;
@@ -7,6 +7,7 @@ use crate::ledger;
 use crate::ours;
 use crate::picture::{DEFAULT_SLICE, PLANE_NAMES, Picture};
 use crate::random::Random;
+use crate::standard;
 use crate::theirs::{Calls, Grid, Rust};
 
 /// What was found of an accepted picture on which both sides agree.
@@ -18,6 +19,9 @@ pub struct Agreed {
     pub tiles: u64,
     /// Whether the customer's Rust was also run with the absent grid.
     pub absent_grid: bool,
+    /// Whether the customer's Rust does not decide here, but the second program alone; and whether the Rust leaves other planes.
+    pub left_out: bool,
+    pub parted: bool,
 }
 
 /// The first sample that differs, with both values.
@@ -69,20 +73,27 @@ fn answered(p: &Picture, random: &mut Random) -> Result<[Vec<u16>; 3], String> {
     Ok(answer.planes)
 }
 
+/// The customer's Rust, where it decides.
+fn check_rust(p: &Picture, planes: &[Vec<u16>; 3], theirs: &[Vec<u16>; 3], rust: &mut Rust) -> Result<bool, String> {
+    same_planes(p, planes, theirs, "Rust")?;
+    if p.one_tile() {
+        same_planes(p, planes, &rust.run(p, Grid::Absent)?.0, "Rust without tiles")?;
+    }
+    Ok(p.one_tile())
+}
+
 fn check_accepted(p: &Picture, planes: &[Vec<u16>; 3], rust: &mut Rust, random: &mut Random) -> Result<Agreed, String> {
     // Term 3 first: it needs no witness but the stage, and what it finds must not hide behind the Rust.
     let tiles = cut::check_tiles(p, planes, random)?;
     let (theirs, calls) = rust.run(p, Grid::Given)?;
-    same_planes(p, planes, &theirs, "Rust")?;
-    let absent_grid = p.one_tile();
-    if absent_grid {
-        same_planes(p, planes, &rust.run(p, Grid::Absent)?.0, "Rust without tiles")?;
-    }
-    check_empty_list(p, planes, random)?;
     let coverage = Coverage::of(p);
+    let left_out = coverage.chroma.above_57 != [0; 6];
+    let absent_grid = !left_out && check_rust(p, planes, &theirs, rust)?;
+    same_planes(p, planes, &standard::deblocked(p), "second program")?;
+    check_empty_list(p, planes, random)?;
     same_counts(&coverage, &calls)?;
     let moved = [0, 1, 2].map(|k| planes[k].iter().zip(&p.planes[k]).filter(|(a, b)| a != b).count() as u64);
-    Ok(Agreed { coverage, calls, moved, tiles, absent_grid })
+    Ok(Agreed { coverage, calls, moved, tiles, absent_grid, left_out, parted: *planes != theirs })
 }
 
 /// Both sides on one picture, accepted or not. `None` stands for a refusal on which they agree; an error says what differs.

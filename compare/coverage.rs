@@ -1,61 +1,24 @@
 //! What an accepted picture exercises: its segments by what the gate and tc say of them, and its suppressed cells.
 //!
-//! The gate is written from document 01. The customer's kernels are called for the segments that are left, and the two counts must
+//! The gate is that of the second program. The customer's kernels are called for the segments that it leaves, and the two counts must
 //! agree; so the tally cannot claim what no kernel did.
 
 use crate::decode;
-use crate::picture::{DEFAULT_SLICE, HORIZONTAL, Picture, SLICE_BYTES, VERTICAL};
+use crate::gate::{Closed, Direction, Open, gate, segments};
+use crate::picture::Picture;
 
 /// Segments of luma, or of chroma, where each stands for Cb and for Cr.
 #[derive(Clone, Copy, Default)]
 pub struct Segments {
-    pub no_edge: u64,
-    pub low_bs: u64,
-    pub tile_border: u64,
-    pub slice_border: u64,
-    pub disabled: u64,
+    /// The closed ones, by `Closed` in its order.
+    pub closed: [u64; 5],
     pub open: u64,
     /// Of the open ones, with tc 0; in chroma counted for Cb and for Cr.
     pub tc_zero: u64,
     /// Of the open ones, with a negative average QP.
     pub negative_qp: u64,
-}
-
-/// A segment by the luma positions of P and Q.
-struct Sides {
-    p: (usize, usize),
-    q: (usize, usize),
-    flag: u8,
-    /// Where a cell has the bS of this direction.
-    bs: usize,
-}
-
-fn tile_of(starts: &[u16], ctb: usize) -> usize {
-    starts.iter().filter(|&&start| usize::from(start) <= ctb).count()
-}
-
-fn same_tile(p: &Picture, a: (usize, usize), b: (usize, usize)) -> bool {
-    let tile = |(x, y): (usize, usize)| (tile_of(&p.columns, x >> p.log2_ctb), tile_of(&p.rows, y >> p.log2_ctb));
-    tile(a) == tile(b)
-}
-
-fn cell_at(p: &Picture, (x, y): (usize, usize)) -> &[u8] {
-    p.cell(y / 4 * p.cells_across() + x / 4)
-}
-
-fn slice_number(cell: &[u8]) -> usize {
-    usize::from(u16::from_le_bytes([cell[4], cell[5]]))
-}
-
-fn slice(p: &Picture, number: usize) -> &[u8] {
-    if p.slices.is_empty() { &DEFAULT_SLICE } else { &p.slices[SLICE_BYTES * number..SLICE_BYTES * (number + 1)] }
-}
-
-/// The average QP and the tc offset of an open segment.
-fn of_open(p: &Picture, s: &Sides) -> (i32, i32) {
-    let (cell_p, cell_q) = (cell_at(p, s.p), cell_at(p, s.q));
-    let average = (i32::from(cell_p[0]) - 64 + i32::from(cell_q[0]) - 64 + 1) >> 1;
-    (average, 2 * (i32::from(slice(p, slice_number(cell_q))[2]) - 6))
+    /// In 4:2:0, of the open ones, the chroma indices 58 to 63, counted for Cb and for Cr: there the Rust does not decide.
+    pub above_57: [u64; 6],
 }
 
 /// The first 18 rows of the tc table are 0.
@@ -64,65 +27,46 @@ fn tc_is_zero(index: i32) -> bool {
 }
 
 impl Segments {
-    fn count(&mut self, p: &Picture, luma: bool, s: &Sides) {
-        let (cell_p, cell_q) = (cell_at(p, s.p), cell_at(p, s.q));
-        let record = slice(p, slice_number(cell_q));
-        if cell_q[1] & s.flag == 0 {
-            self.no_edge += 1;
-        } else if cell_q[s.bs] < if luma { 1 } else { 2 } {
-            self.low_bs += 1;
-        } else if !same_tile(p, s.p, s.q) {
-            self.tile_border += 1;
-        } else if record[3] == 0 && slice_number(cell_p) != slice_number(cell_q) {
-            self.slice_border += 1;
-        } else if record[0] == 1 {
-            self.disabled += 1;
-        } else {
-            self.count_open(p, luma, s, i32::from(cell_q[s.bs]));
-        }
+    fn count_closed(&mut self, why: Closed) {
+        self.closed[why as usize] += 1;
     }
 
-    fn count_open(&mut self, p: &Picture, luma: bool, s: &Sides, bs: i32) {
+    fn count_open(&mut self, p: &Picture, plane: usize, open: &Open) {
         self.open += 1;
-        let (average, offset) = of_open(p, s);
-        self.negative_qp += u64::from(average < 0);
-        if luma {
-            self.tc_zero += u64::from(tc_is_zero(average + 2 * (bs - 1) + offset));
+        self.negative_qp += u64::from(open.average < 0);
+        let offset = 2 * open.tc_offset_div2;
+        if plane == 0 {
+            self.tc_zero += u64::from(tc_is_zero(open.average + 2 * (open.bs - 1) + offset));
             return;
         }
-        for picture_offset in [p.cb_offset, p.cr_offset] {
-            let qp = decode::qpc(average + picture_offset, p.format as u8, p.chroma_depth as u8);
+        for plane in [1, 2] {
+            let index = open.chroma_index(p, plane);
+            let qp = decode::qpc(index, p.format as u8, p.chroma_depth as u8);
             self.tc_zero += u64::from(tc_is_zero(qp + 2 + offset));
+            if p.format == 1 && index > 57 {
+                self.above_57[index as usize - 58] += 1;
+            }
         }
     }
 
     fn add(&mut self, more: &Segments) {
-        self.no_edge += more.no_edge;
-        self.low_bs += more.low_bs;
-        self.tile_border += more.tile_border;
-        self.slice_border += more.slice_border;
-        self.disabled += more.disabled;
+        self.closed.iter_mut().zip(more.closed).for_each(|(a, b)| *a += b);
+        self.above_57.iter_mut().zip(more.above_57).for_each(|(a, b)| *a += b);
         self.open += more.open;
         self.tc_zero += more.tc_zero;
         self.negative_qp += more.negative_qp;
     }
 }
 
-/// The segments of a plane, both directions. The Q cell is that of a segment's second sample.
-fn segments(p: &Picture, plane: usize) -> Segments {
-    let (columns, rows) = p.plane_size(plane);
-    let (across, down) = p.plane_scales(plane);
+/// The segments of a plane, both directions.
+fn segments_of(p: &Picture, plane: usize) -> Segments {
     let mut found = Segments::default();
-    for row in (0..rows).step_by(4) {
-        for edge in (8..columns).step_by(8) {
-            let (x, y) = (edge * across, (row + 1) * down);
-            found.count(p, plane == 0, &Sides { p: (x - 1, y), q: (x, y), flag: VERTICAL, bs: 2 });
-        }
-    }
-    for edge in (8..rows).step_by(8) {
-        for column in (0..columns).step_by(4) {
-            let (x, y) = ((column + 1) * across, edge * down);
-            found.count(p, plane == 0, &Sides { p: (x, y - 1), q: (x, y), flag: HORIZONTAL, bs: 3 });
+    for direction in [Direction::Vertical, Direction::Horizontal] {
+        for segment in segments(p, plane, direction) {
+            match gate(p, &segment) {
+                Ok(open) => found.count_open(p, plane, &open),
+                Err(why) => found.count_closed(why),
+            }
         }
     }
     found
@@ -170,8 +114,7 @@ pub struct Coverage {
 
 impl Coverage {
     pub fn of(p: &Picture) -> Self {
-        let chroma = if p.format == 0 { Segments::default() } else { segments(p, 1) };
-        Coverage { luma: segments(p, 0), chroma, suppressed: suppressed(p) }
+        Coverage { luma: segments_of(p, 0), chroma: segments_of(p, 1), suppressed: suppressed(p) }
     }
 
     pub fn add(&mut self, more: &Coverage) {

@@ -1,4 +1,5 @@
-//! The stage beside the customer's Rust and document 01's refusal ledger, on random pictures. README.md says what is compared.
+//! The stage beside the customer's Rust, a second program from H.265 and document 01's refusal ledger, on random pictures. README.md says what is
+//! compared.
 
 #![allow(dead_code)] // not all of the customer's files is called from here
 
@@ -19,8 +20,14 @@ mod counted;
 #[path = "../rust/src/library.rs"]
 mod library;
 
+#[path = "../oracle/gate.rs"]
+mod gate;
+
 #[path = "../oracle/lent.rs"]
 mod picture;
+
+#[path = "../oracle/standard.rs"]
+mod standard;
 
 #[path = "../oracle/theirs.rs"]
 mod theirs;

@@ -25,15 +25,16 @@ THRESHOLDS = [
     Edit("thresholds/tables", "0x00_00_18_16", "0x00_00_17_16"),  # the last row is 23
     Edit("thresholds/tables", "(31 + q / 2) as u32", "(31 + (q + 1) / 2) as u32"),
     Edit("thresholds/tables", "v << (depth - 8)", "v << (depth - 8) / 2"),
-    Edit("thresholds/chroma", "let low = 76 - 6 * (depth - 8);", "let low = 76;",
-         "a chroma QP below 4 reads one of TC's rows below 18 at every tc offset, where tc is 0, so the lower end does not show"),
-    Edit("thresholds/chroma", "} else if 133 < index {", "} else if 134 < index {"),
+    # The Rust's clip of the chroma index, at 0 and at 57.
+    Edit("thresholds/chroma", "if index < 106 {\n        index\n", "if index < 106 {\n        if index < 76 { 76 } else { index }\n",
+         "below zero the clip moves no threshold (theorem same-tc)"),
+    Edit("thresholds/chroma", "return table_qpc(index);", "return table_qpc(if index < 133 { index } else { 133 });"),
     Edit("thresholds/chroma", "if index < 106 {", "if index < 107 {"),
     Edit("thresholds/chroma", "} else if 119 < index {", "} else if 118 < index {",
          "row 43 of the table is 37, which is also 43 - 6 (theorem qpc-ends)"),
     Edit("thresholds/chroma", "index - 6\n", "index - 7\n"),
     Edit("thresholds/chroma", "if format == 1 {", "if format <= 2 {"),
-    Edit("thresholds/chroma", "if clipped < 127 { clipped } else { 127 }", "if clipped < 128 { clipped } else { 128 }"),
+    Edit("thresholds/chroma", "if index < 127 { index } else { 127 }", "if index < 128 { index } else { 128 }"),
     Edit("thresholds/chroma", "qp + 4 + 2 * (offset as u32)", "qp + 3 + 2 * (offset as u32)"),
     Edit("thresholds/chroma", "ints::clip_index(53,", "ints::clip_index(52,"),
 ]

@@ -25,6 +25,8 @@ pub struct Tally {
     tiled: u64,
     most_tiles: u64,
     absent_grids: u64,
+    left_out: u64,
+    parted: u64,
     empty_lists: u64,
     many_slices: u64,
     luma_samples: u64,
@@ -66,6 +68,8 @@ impl Tally {
         self.tiled += u64::from(a.tiles > 1);
         self.most_tiles = self.most_tiles.max(a.tiles);
         self.absent_grids += u64::from(a.absent_grid);
+        self.left_out += u64::from(a.left_out);
+        self.parted += u64::from(a.parted);
         self.empty_lists += u64::from(p.slices.is_empty());
         self.many_slices += u64::from(p.slices.len() == 2400);
         self.luma_samples += p.planes[0].len() as u64;
@@ -102,6 +106,8 @@ impl Tally {
         self.tiled += more.tiled;
         self.most_tiles = self.most_tiles.max(more.most_tiles);
         self.absent_grids += more.absent_grids;
+        self.left_out += more.left_out;
+        self.parted += more.parted;
         self.empty_lists += more.empty_lists;
         self.many_slices += more.many_slices;
         self.luma_samples += more.luma_samples;
@@ -126,6 +132,12 @@ impl Tally {
             "  also with the absent grid {}; empty slice list {}; 600 slices {}",
             self.absent_grids, self.empty_lists, self.many_slices
         );
+        println!(
+            "  left to the second program {}, of which the Rust leaves other samples in {}; beside the Rust {}",
+            self.left_out,
+            self.parted,
+            self.accepted - self.left_out
+        );
         let [y, cb, cr] = self.moved;
         println!("  samples moved: Y {y}, Cb {cb}, Cr {cr}");
         let s = &self.coverage.suppressed;
@@ -146,6 +158,8 @@ impl Tally {
         print_closed(luma);
         println!("chroma segments, Cb and Cr: filtered {}, tc 0 {}", self.chroma, chroma.tc_zero);
         print_closed(chroma);
+        let indices: Vec<String> = (58..).zip(chroma.above_57).map(|(index, count)| format!("{index}: {count}")).collect();
+        println!("  open in 4:2:0 with an index above 57: {}", indices.join(", "));
     }
 
     fn print_refusals(&self) {
@@ -161,9 +175,11 @@ impl Tally {
 }
 
 fn print_closed(s: &Segments) {
+    let [no_edge, low_bs, tile_border, slice_border, disabled] = s.closed;
     println!(
-        "  closed: no edge {}, bS too low {}, tile border {}, slice border {}, slice disabled {}; open with a negative average QP {}",
-        s.no_edge, s.low_bs, s.tile_border, s.slice_border, s.disabled, s.negative_qp
+        "  closed: no edge {no_edge}, bS too low {low_bs}, tile border {tile_border}, slice border {slice_border}, slice disabled {disabled}; \
+        open with a negative average QP {}",
+        s.negative_qp
     );
 }
 
