@@ -16,7 +16,7 @@ sys.dont_write_bytecode = True
 
 from ledger import SCALES, verdict
 from picture_case import Case, moves, stays
-from picture_records import HORIZONTAL, LOSSLESS, PCM, VERTICAL, Picture, decided, fingerprint, random_picture
+from picture_records import HORIZONTAL, LOSSLESS, PCM, VERTICAL, Picture, decided, fingerprint, oracle, random_picture
 from pictures import FAR, FAULTS, colour, example, restored, step_at, t1
 from records import Random
 from stored import is_checking, store
@@ -258,7 +258,27 @@ def refusals():
     yield Case("refused: log2 CTB 4294967295", picture, 4, 0)
 
 
-GROUPS = [figures, grids, many, twins, refusals, example]
+def highest():
+    """Chroma indices above 57 in 4:2:0 (document 02, C-17): 63 in Cb and 60 in Cr, tc 13 and 9."""
+    random = Random(35)
+    picture = busy(random, random_picture(random, width=88, height=72, format=1, luma_depth=8, chroma_depth=8, log2_ctb=4,
+                                          cb_offset=12, cr_offset=9, columns=[0, 1, 3], rows=[0, 2], pcm_switch=1,
+                                          slices=[(0, 6, 0, 1)]))
+    picture.set_cells(lambda record, x, y: record.__setitem__(0, 64 + 51))
+    mark_borders(random, picture)
+    yield Marked("C-17: chroma indices 63 and 60, tiles [0, 1, 3] by [0, 2]", picture)
+
+
+GROUPS = [figures, grids, many, twins, refusals, highest, example]
+
+
+def check_parting(accepted, left):
+    """The Rust leaves other samples in both chroma planes of each picture that is left to the second program."""
+    parted = [(case, planes) for (case, planes), parts in zip(accepted, left) if parts]
+    filtered, _ = oracle([case.picture for case, _ in parted])
+    assert parted
+    for (case, planes), rust in zip(parted, filtered):
+        assert [own == other for own, other in zip(planes, rust)] == [True, False, False], case.name
 
 
 def check_cuts(accepted):
@@ -315,6 +335,7 @@ def main():
     check_borders(accepted)
     check_neighbour(accepted)
     check_twins(accepted)
+    check_parting(accepted, left)
     planes_of = {id(case): planes for case, planes in accepted}
     text = [line for number, case in enumerate(cases, 1)
             for line in lines(number, case.picture, case.answer, planes_of.get(id(case)))]
