@@ -1,6 +1,6 @@
 -- A picture is accepted exactly where no cause of the refusal ledger applies.
 use Prim.Native.Nat.{ℕ, zero, suc, _+_, _-_, _*_, _≤_, _<_}
-use mathlib.Core.Path.{_≡_, sym, _∙_}
+use mathlib.Core.Path.{_≡_}
 use mathlib.Core.Bool.{Bool, false}
 use mathlib.Core.List.{List, [], _∷_, _++_}
 use native.Mathlib.Omega.{arith}
@@ -9,7 +9,8 @@ use lib.Dec.{ltb}
 use lib.ListN.{length}
 use lib.IntN.{pos}
 use Rattle.ints.specs.Int.{_⊖_, neg, lt}
-use Rattle.ints.proofs.Laws.{diffs, lt-diff, pos-lt, le-lt}
+use Rattle.ints.proofs.Bounds.{low-out, most-out}
+use Rattle.ints.proofs.Laws.{diffs, lt-diff, pos-lt}
 use Rattle.picture.specs.Accepted.{SettingsOk, PlanesOk, SliceOk, StartsOk, CellOk, PictureOk, Accepted}
 use Rattle.picture.specs.Causes.{
   badSize,
@@ -128,10 +129,8 @@ qp-high-test byte = pos-lt 51 byte 64
 
 pub qp-range : {depth : ℕ} {slices : List ℕ} {byte : ℕ → ℕ} → CellOk depth slices byte
     → (64 ≤ byte 0 + 6 * (depth - 8)) × (byte 0 ≤ 115)
-qp-range {depth} {slices} {byte} ok = (
-  ltb-false _ _ (sym (qp-low-test (byte 0) (6 * (depth - 8))) ∙ le-lt _ _ (ok .qp-low)),
-  ltb-false _ _ (sym (qp-high-test (byte 0)) ∙ le-lt _ _ (ok .qp-high)),
-)
+qp-range {depth} {slices} {byte} ok =
+    (low-out (6 * (depth - 8)) (byte 0) 64 (ok .qp-low), most-out 51 (byte 0) 64 (ok .qp-high))
 
 -- ---- a picture that no cause applies to is accepted, whatever is lent beside it
 

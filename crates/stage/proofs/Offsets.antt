@@ -1,26 +1,19 @@
 -- A chroma offset in -12 .. 12, plus 12, is a small natural number that says the offset.
 use Prim.Native.Nat.{ℕ, _+_, _-_, _≤_}
 use mathlib.Core.Path.{_≡_, sym, ap, _∙_, subst}
-use native.Mathlib.Nat.{zero-add}
 use native.Mathlib.Omega.{arith}
-use borrow.Author.Tests.{ltb-false}
-use lib.Dec.{T, ltb}
+use lib.Dec.{T}
 use lib.IntN.{ℤ, pos, natAbs, _+ℤ_}
 use lib.Signed.{nonNeg}
 use mir.Syntax.{w8, w32}
 use mir.Val.{Fits, SFits}
-use Rattle.ints.specs.Int.{_⊖_, _⊞_, neg, lt, abs}
-use Rattle.ints.proofs.Laws.{diffs, diff-eq, diff-pos, by-diff, pos-diff, plus-diff, lt-diff, pos-lt, abs-diff, le-lt}
+use Rattle.ints.specs.Int.{_⊖_, _⊞_, abs}
+use Rattle.ints.proofs.Bounds.{low-out, most-out}
+use Rattle.ints.proofs.Laws.{diff-eq, diff-pos, by-diff, pos-diff, plus-diff, abs-diff}
 use Rattle.picture.specs.Accepted.{OffsetOk}
 
 range : (a b : ℕ) → OffsetOk (a ⊖ b) → (b ≤ a + 12) × (a ≤ b + 12)
-range a b ok =
-    let low : lt (a ⊖ b) (neg (pos 12)) ≡ ltb (a + 12) b =
-    simp diffs (lt-diff a b 0 12 ∙ ap (ltb (a + 12)) (zero-add b)) in
-    let high : lt (pos 12) (a ⊖ b) ≡ ltb (12 + b) a = pos-lt 12 a b in (
-      ltb-false (a + 12) b (sym low ∙ le-lt _ _ (ok .least)),
-      omega (arith, ltb-false (12 + b) a (sym high ∙ le-lt _ _ (ok .most))),
-    )
+range a b ok = (low-out 12 a b (ok .least), omega (arith, most-out 12 a b (ok .most)))
 
 -- the sum of an offset and 12
 pub record Shifted (z : ℤ) : Type 0 where

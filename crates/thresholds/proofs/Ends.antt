@@ -5,10 +5,11 @@ use lib.ListN.{length}
 use lib.IntN.{ℤ, pos, negsuc}
 use lib.Signed.{_≤ℤ_}
 use Rattle.ints.specs.Int.{_⊞_, _⊟_, neg, _⊠_, lt, clip3, natOf}
+use Rattle.ints.proofs.Bounds.{sum-least, sum-most}
 use Rattle.thresholds.specs.Tables.{BETA, TC, QPC}
 use Rattle.thresholds.specs.Luma.{averageQp, betaIndex, tcIndex, scaled, lumaBeta, lumaTc}
 use Rattle.thresholds.specs.Chroma.{tableQpc, chromaQp, chromaTc}
-use Rattle.thresholds.proofs.Facts.{average-least, average-most, sum-least, sum-most}
+use Rattle.thresholds.proofs.Facts.{average-least, average-most}
 
 pub rows : (length BETA ≡ 52) × (length TC ≡ 54) × (length QPC ≡ 14)
 unfolding BETA TC QPC

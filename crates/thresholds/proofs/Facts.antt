@@ -1,7 +1,7 @@
 -- The definitions at biased naturals, in naturals: what the code's numbers put together.
 use Prim.Native.Nat.{ℕ, _+_, _*_, _-_, _/_, _^_, _≤_, _<_, min}
 use mathlib.Core.Path.{_≡_, sym, _∙_, ap}
-use mathlib.Core.Bool.{false, cond}
+use mathlib.Core.Bool.{cond}
 use mathlib.Core.Logic.{_⊎_, inl, inr}
 use native.Mathlib.Omega.{arith}
 use native.Mathlib.Nat.{mul-le-mul}
@@ -10,8 +10,9 @@ use lib.ListN.{getD}
 use lib.Pow.{pow-mono}
 use lib.IntN.{ℤ, pos}
 use lib.Signed.{_≤ℤ_}
-use borrow.Author.Tests.{ltb-false, lt-ltb, le-ltb, eq-eqb, ne-eqb}
+use borrow.Author.Tests.{lt-ltb, le-ltb, eq-eqb, ne-eqb}
 use Rattle.ints.specs.Int.{_⊖_, _⊞_, _⊟_, neg, lt, clip3, natOf}
+use Rattle.ints.proofs.Bounds.{most-out, most-in, low-out, low-in, by-diffs}
 use Rattle.ints.proofs.Laws.{
   diffs,
   diff-eq,
@@ -21,10 +22,6 @@ use Rattle.ints.proofs.Laws.{
   plus-diff,
   lt-pos,
   pos-lt,
-  lt-diff,
-  le-lt,
-  lt-false,
-  by-diff,
   either,
   clip-index-is,
 }
@@ -63,48 +60,17 @@ scaled-small {d} {v} hd hv =
     let m : v * 2 ^ (d - 8) ≤ 64 * 2 ^ 8 = mul-le-mul hv p in
     omega arith
 
--- ---- bounds of an integer, in naturals
-
-pub at-most : (m c e : ℕ) → (c ⊖ e) ≤ℤ pos m → c ≤ m + e
-at-most m c e h = ltb-false (m + e) c (sym (pos-lt m c e) ∙ le-lt (pos m) (c ⊖ e) h)
-
-pub not-below : (m c e : ℕ) → pos m ≤ℤ (c ⊖ e) → m + e ≤ c
-not-below m c e h = ltb-false c (m + e) (sym (lt-pos c e m) ∙ le-lt (c ⊖ e) (pos m) h)
-
-pub at-least : (m c e : ℕ) → neg (pos m) ≤ℤ (c ⊖ e) → e ≤ c + m
-at-least m c e h =
-    let test : lt (c ⊖ e) (0 ⊖ m) ≡ false = simp diffs at (le-lt (c ⊖ e) (neg (pos m)) h) in
-    omega (arith, ltb-false (c + m) (0 + e) (sym (lt-diff c e 0 m) ∙ test))
-
-most : (m c e : ℕ) → c ≤ m + e → (c ⊖ e) ≤ℤ pos m
-most m c e h = lt-false (pos m) (c ⊖ e) (pos-lt m c e ∙ le-ltb (m + e) c h)
-
-least : (m c e : ℕ) → e ≤ c + m → neg (pos m) ≤ℤ (c ⊖ e)
-least m c e h = lt-false (c ⊖ e) (neg (pos m)) (simp diffs (lt-diff c e 0 m ∙ le-ltb (c + m) (0 + e) (omega arith)))
-
--- what holds of all pairs of differences holds of all pairs of integers
-pub by-diffs : (P : ℤ → ℤ → Type 0) → ((a b c d : ℕ) → P (a ⊖ b) (c ⊖ d)) → (x y : ℤ) → P x y
-by-diffs P f x y = by-diff (λ x. P x y) (λ a b. by-diff (P (a ⊖ b)) (f a b) y) x
-
-pub sum-most : (m n : ℕ) (x y : ℤ) → x ≤ℤ pos m → y ≤ℤ pos n → (x ⊞ y) ≤ℤ pos (m + n)
-sum-most m n =
-    by-diffs (λ x y. x ≤ℤ pos m → y ≤ℤ pos n → (x ⊞ y) ≤ℤ pos (m + n))
-    (λ a b c d hx hy. simp plus-diff (most (m + n) (a + c) (b + d) (omega (arith, at-most _ _ _ hx, at-most _ _ _ hy))))
-
-pub sum-least : (m n : ℕ) (x y : ℤ) → neg (pos m) ≤ℤ x → neg (pos n) ≤ℤ y → neg (pos (m + n)) ≤ℤ (x ⊞ y)
-sum-least m n =
-    by-diffs (λ x y. neg (pos m) ≤ℤ x → neg (pos n) ≤ℤ y → neg (pos (m + n)) ≤ℤ (x ⊞ y))
-    (λ a b c d hx hy. simp plus-diff (least (m + n) (a + c) (b + d) (omega (arith, at-least _ _ _ hx, at-least _ _ _ hy))))
+-- ---- the bounds of two QPs are those of their average
 
 pub average-most : (m : ℕ) (p q : ℤ) → p ≤ℤ pos m → q ≤ℤ pos m → averageQp p q ≤ℤ pos m
 average-most m =
     by-diffs (λ p q. p ≤ℤ pos m → q ≤ℤ pos m → averageQp p q ≤ℤ pos m)
-    (λ a b c d hp hq. rw average-diff (most m _ (b + d) (omega (arith, at-most _ _ _ hp, at-most _ _ _ hq))))
+    (λ a b c d hp hq. rw average-diff (most-in m _ (b + d) (omega (arith, most-out m a b hp, most-out m c d hq))))
 
 pub average-least : (m : ℕ) (p q : ℤ) → neg (pos m) ≤ℤ p → neg (pos m) ≤ℤ q → neg (pos m) ≤ℤ averageQp p q
 average-least m =
     by-diffs (λ p q. neg (pos m) ≤ℤ p → neg (pos m) ≤ℤ q → neg (pos m) ≤ℤ averageQp p q)
-    (λ a b c d hp hq. rw average-diff (least m _ (b + d) (omega (arith, at-least _ _ _ hp, at-least _ _ _ hq))))
+    (λ a b c d hp hq. rw average-diff (low-in m _ (b + d) (omega (arith, low-out m a b hp, low-out m c d hq))))
 
 -- ---- the chroma QP, held 76 more
 

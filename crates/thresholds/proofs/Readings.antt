@@ -12,13 +12,14 @@ use lib.IntN.{ℤ, pos, negsuc}
 use lib.Signed.{_≤ℤ_}
 use borrow.Author.Tests.{lt-ltb, le-ltb, ne-eqb}
 use Rattle.ints.specs.Int.{_⊖_, _⊞_, _⊟_, _⊠_, neg, lt, clip3, natOf}
+use Rattle.ints.proofs.Bounds.{most-out, least-out, by-diffs}
 use Rattle.ints.proofs.Laws.{either, diffs, diff-eq, by-diff, lt-pos, clip-diff}
 use Rattle.thresholds.specs.Tables.{TC, QPC}
 use Rattle.thresholds.specs.Luma.{tcIndex, scaled}
 use Rattle.thresholds.specs.Chroma.{tableQpc, chromaQp, chromaTc}
 use Rattle.thresholds.specs.Clipped.{clippedIndex, clippedChromaQp, clippedChromaTc}
 use Rattle.thresholds.proofs.Rows.{tc-none}
-use Rattle.thresholds.proofs.Facts.{tc-is, at-most, not-below, by-diffs, table-high}
+use Rattle.thresholds.proofs.Facts.{tc-is, table-high}
 
 -- ---- below zero: every index is its own chroma QP, and tC is 0
 
@@ -39,7 +40,7 @@ low-row : (f a b : ℕ) (t : ℤ) → a ≤ b → t ≤ℤ pos 6 → row (chroma
 low-row f a b t h =
     by-diff (λ t. t ≤ℤ pos 6 → row (chromaQp f (a ⊖ b)) t ≡ 0)
     (λ c e ht.
-    let most : c ≤ 6 + e = at-most 6 c e ht in
+    let most : c ≤ 6 + e = most-out 6 c e ht in
     ap (λ (qp : ℤ). row qp (c ⊖ e)) (low-qp f a b h)
     ∙ ap (λ (q : ℕ). getD TC q 0) (tc-is b a 2 e c)
     ∙ tc-none _ (omega arith))
@@ -78,7 +79,7 @@ same-row f d a b t ht hi = go (either (a + k) b) (either (57 + b) a)
         low-row f a b t (omega arith) ht
         ∙ sym (ap read (to 0 k (omega arith)) ∙ low-row f 0 k t (omega arith) ht)
     go (inr p) (inl q) =
-        let other : f ≡ 1 → ⊥ = λ e. omega (arith, at-most 57 a b (hi e)) in
+        let other : f ≡ 1 → ⊥ = λ e. omega (arith, most-out 57 a b (hi e)) in
         ap (λ (qp : ℤ). row qp t)
         (high-qp f a b other (omega arith)
         ∙ sym (ap (chromaQp f) (to 57 0 (omega arith)) ∙ high-qp f 57 0 other (omega arith)))
@@ -119,8 +120,8 @@ same-last d qPL off t hi ht =
     (by-diffs
     (λ i t. pos 57 ≤ℤ i → pos 0 ≤ℤ t → row (chromaQp 1 i) t ≡ row (chromaQp 1 (clippedIndex d i)) t)
     (λ a b c e hi ht.
-    let high : 57 + b ≤ a = not-below 57 a b hi in
-    let tc : e ≤ c = omega (arith, not-below 0 c e ht) in
+    let high : 57 + b ≤ a = least-out 57 a b hi in
+    let tc : e ≤ c = omega (arith, least-out 0 c e ht) in
     last-row a b c e high tc
     ∙ sym (ap (λ (i : ℤ). row (chromaQp 1 i) (c ⊖ e)) (clip-high d a b high) ∙ last-row 57 0 c e (omega arith) tc))
     (qPL ⊞ off)
