@@ -1,5 +1,5 @@
-// The pass over a component's horizontal edges, in place: the strips of a band, the bands of a plane. It serves luma and
-// chroma.
+// The pass over a component's horizontal edges, in place: the strips of a band, the bands of a plane. It serves luma
+// and chroma.
 use filter::Component;
 use filter::horiz_band_end;
 use segments::Frame;

@@ -69,14 +69,16 @@ returns-3 : tie.Need-returns-3
 returns-3 c =
     let filtered = c .before .before in
     let t = of-luma (filtered .before) in
-    luma _ _ _ _ _ (t .before .before .horizontal-filter .ensures) _ _ (t .beta .given .1) (filtered .horizontal-luma .ensures .0)
+    luma _ _ _ _ _ (t .before .before .horizontal-filter .ensures) _ _ (t .beta .given .1)
+    (filtered .horizontal-luma .ensures .0)
     (filtered .horizontal-luma .ensures .1)
 
 returns-4 : tie.Need-returns-4
 returns-4 c =
     let filtered = c .before .before in
     let t = of-chroma (filtered .before) in
-    chroma _ _ _ _ _ (t .before .before .horizontal-filter .ensures) _ (t .tc .given .1) (filtered .horizontal-chroma .ensures)
+    chroma _ _ _ _ _ (t .before .before .horizontal-filter .ensures) _ (t .tc .given .1)
+    (filtered .horizontal-chroma .ensures)
 
 pub horizontal-segment-spec : {M : Type 1} → statement M
 horizontal-segment-spec =

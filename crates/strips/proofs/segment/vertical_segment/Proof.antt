@@ -69,14 +69,16 @@ returns-3 : tie.Need-returns-3
 returns-3 c =
     let filtered = c .before .before in
     let t = of-luma (filtered .before) in
-    luma _ _ _ _ _ (t .before .before .vertical-filter .ensures) _ _ (t .beta .given .1) (filtered .vertical-luma .ensures .0)
+    luma _ _ _ _ _ (t .before .before .vertical-filter .ensures) _ _ (t .beta .given .1)
+    (filtered .vertical-luma .ensures .0)
     (filtered .vertical-luma .ensures .1)
 
 returns-4 : tie.Need-returns-4
 returns-4 c =
     let filtered = c .before .before in
     let t = of-chroma (filtered .before) in
-    chroma _ _ _ _ _ (t .before .before .vertical-filter .ensures) _ (t .tc .given .1) (filtered .vertical-chroma .ensures)
+    chroma _ _ _ _ _ (t .before .before .vertical-filter .ensures) _ (t .tc .given .1)
+    (filtered .vertical-chroma .ensures)
 
 pub vertical-segment-spec : {M : Type 1} → statement M
 vertical-segment-spec =
