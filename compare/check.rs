@@ -3,6 +3,7 @@
 use crate::counted::counted;
 use crate::coverage::Coverage;
 use crate::cut;
+use crate::gate;
 use crate::ledger;
 use crate::ours;
 use crate::picture::{DEFAULT_SLICE, PLANE_NAMES, Picture};
@@ -87,7 +88,8 @@ fn check_accepted(p: &Picture, planes: &[Vec<u16>; 3], rust: &mut Rust, random: 
     let tiles = cut::check_tiles(p, planes, random)?;
     let (theirs, calls) = rust.run(p, Grid::Given)?;
     let coverage = Coverage::of(p);
-    let left_out = coverage.chroma.above_57 != [0; 6];
+    let left_out = gate::parts(p);
+    assert_eq!(left_out, coverage.chroma.above_57 != [0; 6], "the tally counts other segments than those that part");
     let absent_grid = !left_out && check_rust(p, planes, &theirs, rust)?;
     same_planes(p, planes, &standard::deblocked(p), "second program")?;
     check_empty_list(p, planes, random)?;
