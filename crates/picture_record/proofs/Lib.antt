@@ -1,2 +1,3 @@
 mod Joined
 mod Limits
+mod Taken

@@ -1,8 +1,11 @@
 // The stored record of a picture: its numbers, its head and its lists. oracle/README.md has the layout.
+mod fronts;
 mod head;
 mod numbers;
 mod reading;
 
+pub use fronts::front;
+pub use fronts::front_of_bytes;
 pub use head::CELL_BYTES;
 pub use head::SAMPLES;
 pub use head::SLICE_BYTES;

@@ -1,6 +1,7 @@
 // What is done with one picture that was read. Each function answers whether all was written.
 use crate::Task;
 use picture_record::SAMPLES;
+use picture_record::front;
 use picture_record::length_at;
 use picture_record::settings;
 use picture_text::put_line;
@@ -9,7 +10,6 @@ use tile_run::JUNK;
 use tile_run::LentSamples;
 use tile_run::tile_lines;
 ghost use mathlib.Core.Path.{_≡_};
-ghost use Prim.Native.Nat.{_≤_};
 ghost use Rattle.picture.specs.Lent.{given};
 ghost use Rattle.picture_run.specs.Outputs.{lentOutputs};
 
@@ -47,7 +47,6 @@ fn stage_line(
 // How long the output planes are.
 fn lent_outputs(head: &[u8; 80]) -> LentSamples
     ensures { λ r. ⌜ r ≡ lentOutputs (given head) ⌝ }
-    ensures { λ r. ⌜ (r .y ≤ 40000) × ((r .cb ≤ 40000) × (r .cr ≤ 40000)) ⌝ }
 {
     LentSamples {
         y: length_at(head, 3),
@@ -69,9 +68,6 @@ fn with_outputs(
     rows: &[u16],
 ) -> bool {
     let lent = lent_outputs(head);
-    let a = lent.y;
-    let b = lent.cb;
-    let c = lent.cr;
     let mut outy = [JUNK; SAMPLES];
     let mut outcb = [JUNK; SAMPLES];
     let mut outcr = [JUNK; SAMPLES];
@@ -85,9 +81,9 @@ fn with_outputs(
         slices,
         columns,
         rows,
-        &mut outy[..a],
-        &mut outcb[..b],
-        &mut outcr[..c],
+        front(&mut outy, lent.y),
+        front(&mut outcb, lent.cb),
+        front(&mut outcr, lent.cr),
     )
 }
 

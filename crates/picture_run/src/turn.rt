@@ -8,6 +8,8 @@ use picture_record::SAMPLES;
 use picture_record::SLICE_BYTES;
 use picture_record::STARTS;
 use picture_record::all_fit;
+use picture_record::front;
+use picture_record::front_of_bytes;
 use picture_record::is_marked;
 use picture_record::length_at;
 use picture_record::read_bytes;
@@ -36,10 +38,6 @@ fn read_lists(
 }
 
 fn with_lists(task: Task, number: u64, head: &[u8; 80], y: &[u16], cb: &[u16], cr: &[u16]) -> bool {
-    let a = length_at(head, 6);
-    let b = length_at(head, 7);
-    let c = length_at(head, 8);
-    let d = length_at(head, 9);
     let mut cells = [0u8; CELL_BYTES];
     let mut slices = [0u8; SLICE_BYTES];
     let mut columns = [0u16; STARTS];
@@ -51,10 +49,10 @@ fn with_lists(task: Task, number: u64, head: &[u8; 80], y: &[u16], cb: &[u16], c
         y,
         cb,
         cr,
-        &mut cells[..a],
-        &mut slices[..b],
-        &mut columns[..c],
-        &mut rows[..d],
+        front_of_bytes(&mut cells, length_at(head, 6)),
+        front_of_bytes(&mut slices, length_at(head, 7)),
+        front(&mut columns, length_at(head, 8)),
+        front(&mut rows, length_at(head, 9)),
     )
 }
 
@@ -74,13 +72,17 @@ fn read_planes(
 }
 
 fn with_planes(task: Task, number: u64, head: &[u8; 80]) -> bool {
-    let a = length_at(head, 0);
-    let b = length_at(head, 1);
-    let c = length_at(head, 2);
     let mut y = [0u16; SAMPLES];
     let mut cb = [0u16; SAMPLES];
     let mut cr = [0u16; SAMPLES];
-    read_planes(task, number, head, &mut y[..a], &mut cb[..b], &mut cr[..c])
+    read_planes(
+        task,
+        number,
+        head,
+        front(&mut y, length_at(head, 0)),
+        front(&mut cb, length_at(head, 1)),
+        front(&mut cr, length_at(head, 2)),
+    )
 }
 
 // The next record.

@@ -43,7 +43,3 @@ lentPlanes first format size wrong = record {
 -- the cells' list
 unfoldable pub lentCells : CutSize → ℕ → ℕ
 lentCells size wrong = lengthOf 4 (cellBytes size) wrong 20000
-
--- no plane has more than the program holds
-abbrev pub capped : LentSamples → LentSamples
-capped lent = record { y = min (lent .y) 40000; cb = min (lent .cb) 40000; cr = min (lent .cr) 40000 }

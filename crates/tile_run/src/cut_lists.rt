@@ -1,4 +1,4 @@
-// How long the lists are that are lent for a tile's cut, and the outputs that are lent with the picture.
+// How long the lists are that are lent for a tile's cut.
 use crate::LentSamples;
 use picture::CellColumn;
 use picture::LumaColumn;
@@ -9,9 +9,9 @@ use picture_record::CELL_BYTES;
 use picture_record::SAMPLES;
 use tile_parts::CutSize;
 ghost use mathlib.Core.Path.{_≡_};
-ghost use Prim.Native.Nat.{_*_, _≤_, _<_, min, max};
+ghost use Prim.Native.Nat.{_*_, _≤_, min};
 ghost use Rattle.tile_run.specs.CutLists.{planeSamples, cellBytes, chromaSize, oneOff, lengthOf};
-ghost use Rattle.tile_run.specs.CutLists.{lentPlanes, lentCells, capped};
+ghost use Rattle.tile_run.specs.CutLists.{lentPlanes, lentCells};
 
 // The product, and never more than `most`.
 fn area(width: usize, height: usize, most: usize) -> usize
@@ -65,7 +65,6 @@ pub(crate) fn chroma_size(format: u32, size: CutSize) -> CutSize
 // One less, or one more where there is none to lose.
 fn one_off(exact: usize) -> usize
     ensures { λ r. ⌜ r ≡ oneOff exact ⌝ }
-    ensures { λ r. ⌜ r ≤ max exact 1 ⌝ }
 {
     if exact == 0 {
         return 1;
@@ -76,9 +75,8 @@ fn one_off(exact: usize) -> usize
 // The length of a list of 1 to 7, which is the exact one, but for the list `wrong`: one too short at its own number,
 // one too long at seven more.
 fn length_of(list: usize, exact: usize, wrong: usize, most: usize) -> usize
-    requires { ⌜ (list ≤ 7) × ((exact ≤ most) × ((0 < most) × (most ≤ 40000))) ⌝ }
+    requires { ⌜ (list ≤ 7) × (exact ≤ 40000) ⌝ }
     ensures { λ r. ⌜ r ≡ lengthOf list exact wrong most ⌝ }
-    ensures { λ r. ⌜ r ≤ most ⌝ }
 {
     if wrong == list {
         return one_off(exact);
@@ -93,7 +91,6 @@ fn length_of(list: usize, exact: usize, wrong: usize, most: usize) -> usize
 pub(crate) fn lent_planes(first: usize, format: u32, size: CutSize, wrong: usize) -> LentSamples
     requires { ⌜ first ≤ 5 ⌝ }
     ensures { λ r. ⌜ r ≡ lentPlanes first format size wrong ⌝ }
-    ensures { λ r. ⌜ (r .y ≤ 40000) × ((r .cb ≤ 40000) × (r .cr ≤ 40000)) ⌝ }
 {
     let luma = plane_samples(size);
     let chroma = plane_samples(chroma_size(format, size));
@@ -107,19 +104,6 @@ pub(crate) fn lent_planes(first: usize, format: u32, size: CutSize, wrong: usize
 // Its cells' list.
 pub(crate) fn lent_cells(size: CutSize, wrong: usize) -> usize
     ensures { λ r. ⌜ r ≡ lentCells size wrong ⌝ }
-    ensures { λ r. ⌜ r ≤ 20000 ⌝ }
 {
     length_of(4, cut_cell_bytes(size), wrong, CELL_BYTES)
-}
-
-// The picture's outputs, and never more than the program holds.
-pub(crate) fn lent_outputs(lent: LentSamples) -> LentSamples
-    ensures { λ r. ⌜ r ≡ capped lent ⌝ }
-    ensures { λ r. ⌜ (r .y ≤ 40000) × ((r .cb ≤ 40000) × (r .cr ≤ 40000)) ⌝ }
-{
-    LentSamples {
-        y: at_most(lent.y, SAMPLES),
-        cb: at_most(lent.cb, SAMPLES),
-        cr: at_most(lent.cr, SAMPLES),
-    }
 }

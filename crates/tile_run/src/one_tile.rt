@@ -3,7 +3,6 @@ use crate::JUNK;
 use crate::LentSamples;
 use crate::cut_lists::chroma_size;
 use crate::cut_lists::lent_cells;
-use crate::cut_lists::lent_outputs;
 use crate::cut_lists::lent_planes;
 use crate::lines::Trial;
 use crate::lines::put_place;
@@ -11,6 +10,8 @@ use crate::lines::put_tile;
 use picture::Settings;
 use picture_record::CELL_BYTES;
 use picture_record::SAMPLES;
+use picture_record::front;
+use picture_record::front_of_bytes;
 use tile_check::check_tile;
 use tile_parts::cut_size;
 
@@ -35,10 +36,7 @@ fn tile_line(
     let at = trial.at;
     let size = cut_size(settings, columns, rows, at);
     let lent = lent_planes(1, settings.chroma_format, size, trial.wrong);
-    let a = lent.y;
-    let b = lent.cb;
-    let c = lent.cr;
-    let d = lent_cells(size, trial.wrong);
+    let bytes = lent_cells(size, trial.wrong);
     let mut cuty = [JUNK; SAMPLES];
     let mut cutcb = [JUNK; SAMPLES];
     let mut cutcr = [JUNK; SAMPLES];
@@ -56,10 +54,10 @@ fn tile_line(
         outy,
         outcb,
         outcr,
-        &mut cuty[..a],
-        &mut cutcb[..b],
-        &mut cutcr[..c],
-        &mut cutcells[..d],
+        front(&mut cuty, lent.y),
+        front(&mut cutcb, lent.cb),
+        front(&mut cutcr, lent.cr),
+        front_of_bytes(&mut cutcells, bytes),
         &mut owny[..],
         &mut owncb[..],
         &mut owncr[..],
@@ -85,15 +83,8 @@ pub(crate) fn one_tile(
     if !put_place(trial) {
         return false;
     }
-    let out = lent_outputs(outputs);
     let size = cut_size(settings, columns, rows, trial.at);
     let own = lent_planes(5, settings.chroma_format, size, trial.wrong);
-    let a = out.y;
-    let b = out.cb;
-    let c = out.cr;
-    let d = own.y;
-    let e = own.cb;
-    let f = own.cr;
     let mut outy = [JUNK; SAMPLES];
     let mut outcb = [JUNK; SAMPLES];
     let mut outcr = [JUNK; SAMPLES];
@@ -110,11 +101,11 @@ pub(crate) fn one_tile(
         slices,
         columns,
         rows,
-        &mut outy[..a],
-        &mut outcb[..b],
-        &mut outcr[..c],
-        &mut owny[..d],
-        &mut owncb[..e],
-        &mut owncr[..f],
+        front(&mut outy, outputs.y),
+        front(&mut outcb, outputs.cb),
+        front(&mut outcr, outputs.cr),
+        front(&mut owny, own.y),
+        front(&mut owncb, own.cb),
+        front(&mut owncr, own.cr),
     )
 }

@@ -1,6 +1,5 @@
 -- `lent_outputs` meets its contract: each plane is what its length ensures.
 -- Assumes nothing.
-use native.Mathlib.Omega.{arith}
 use borrow.Author.Needs.{needs}
 use Rattle.picture_run.proofs.pictures.lent_outputs.Statement.{statement}
 use Rattle.picture_run.proofs.pictures.lent_outputs.Tie as tie
@@ -8,10 +7,8 @@ use Rattle.picture_run.proofs.pictures.lent_outputs.Tie as tie
 returns : tie.Need-returns
 returns c =
     let cb = c .before in
-    let y = cb .before in (
-      λ i. record { y = y .length-at .ensures i; cb = cb .length-at2 .ensures i; cr = c .length-at3 .ensures i },
-      omega arith,
-    )
+    let y = cb .before in
+    λ i. record { y = y .length-at .ensures i; cb = cb .length-at2 .ensures i; cr = c .length-at3 .ensures i }
 
 pub lent-outputs-spec : {M : Type 1} → statement M
 lent-outputs-spec =

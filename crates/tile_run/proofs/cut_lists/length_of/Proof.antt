@@ -9,19 +9,17 @@ use Rattle.tile_run.proofs.cut_lists.length_of.Tie as tie
 
 returns : tie.Need-returns
 unfolding lengthOf
-returns c = (rw (eq-eqb _ _ (c .before .if1 .taken), c .one-off .ensures .0) refl, search needs)
+returns c = rw (eq-eqb _ _ (c .before .if1 .taken), c .one-off .ensures) refl
 
 returns-2 : tie.Need-returns-2
 unfolding lengthOf
 returns-2 c =
-    let seven = c .before in (
-      rw (ne-eqb _ _ (seven .before .if1 .left), eq-eqb _ _ (seven .if2 .taken), c .at-most .ensures) refl,
-      search needs,
-    )
+    let seven = c .before in
+    rw (ne-eqb _ _ (seven .before .if1 .left), eq-eqb _ _ (seven .if2 .taken), c .at-most .ensures) refl
 
 returns-3 : tie.Need-returns-3
 unfolding lengthOf
-returns-3 c = (rw (ne-eqb _ _ (c .before .if1 .left), ne-eqb _ _ (c .if2 .left)) refl, search needs)
+returns-3 c = rw (ne-eqb _ _ (c .before .if1 .left), ne-eqb _ _ (c .if2 .left)) refl
 
 pub length-of-spec : {M : Type 1} → statement M
 length-of-spec =

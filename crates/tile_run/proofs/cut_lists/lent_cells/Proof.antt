@@ -12,7 +12,7 @@ unfolding lentCells
 returns c =
     let wrong = c .before .before .args .wrong in
     let bytes = c .before .cut-cell-bytes .ensures in
-    (c .length-of .ensures .0 ∙ ap (λ (n : ℕ). lengthOf 4 n wrong 20000) bytes, c .length-of .ensures .1)
+    c .length-of .ensures ∙ ap (λ (n : ℕ). lengthOf 4 n wrong 20000) bytes
 
 pub lent-cells-spec : {M : Type 1} → statement M
 lent-cells-spec = tie.close (tie.spec (λ c κs. search needs) (λ c κs. search needs) returns)

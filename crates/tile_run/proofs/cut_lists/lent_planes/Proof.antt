@@ -20,17 +20,15 @@ returns c =
     let y = first c in
     let chroma = y .before in
     let a = luma y .before .args in
-    let samples = chroma .plane-samples2 .ensures ∙ ap planeSamples (chroma .before .chroma-size .ensures) in (
-      λ i. record {
-        y = (y .length-of .ensures .0
-            ∙ ap (λ (n : ℕ). lengthOf (a .first) n (a .wrong) 40000) (luma y .plane-samples .ensures)) i;
-        cb = (c .before .length-of2 .ensures .0
-            ∙ ap (λ (n : ℕ). lengthOf (a .first + 1) n (a .wrong) 40000) samples) i;
-        cr = (c .length-of3 .ensures .0
-            ∙ ap (λ (n : ℕ). lengthOf (a .first + 2) n (a .wrong) 40000) samples) i;
-      },
-      (y .length-of .ensures .1, (c .before .length-of2 .ensures .1, c .length-of3 .ensures .1)),
-    )
+    let samples = chroma .plane-samples2 .ensures ∙ ap planeSamples (chroma .before .chroma-size .ensures) in
+    λ i. record {
+      y = (y .length-of .ensures
+          ∙ ap (λ (n : ℕ). lengthOf (a .first) n (a .wrong) 40000) (luma y .plane-samples .ensures)) i;
+      cb = (c .before .length-of2 .ensures
+          ∙ ap (λ (n : ℕ). lengthOf (a .first + 1) n (a .wrong) 40000) samples) i;
+      cr = (c .length-of3 .ensures
+          ∙ ap (λ (n : ℕ). lengthOf (a .first + 2) n (a .wrong) 40000) samples) i;
+    }
 
 pub lent-planes-spec : {M : Type 1} → statement M
 lent-planes-spec =
