@@ -30,28 +30,38 @@ fn d_sam(beta: u32, tc: u16, dpq: u32, p3: u16, p0: u16, q0: u16, q3: u16) -> bo
     step < (5 * (tc as u32) + 1) >> 1
 }
 
-// The decision for a segment, by its lines 0 and 3 alone; it holds for all four.
+// 8.7.2.5.3, in its order and by its names: the decision for a segment by its lines 0 and 3; it holds for all four.
 pub fn luma_decision(beta: u16, tc: u16, l0: Line, l3: Line) -> LumaDecision
     ensures { λ r. ⌜ r ≡ caseOf (decision beta tc l0 l3) ⌝ }
 {
+    let beta = beta as u32;
     let dp0 = side_activity(l0.p2, l0.p1, l0.p0);
-    let dq0 = side_activity(l0.q2, l0.q1, l0.q0);
     let dp3 = side_activity(l3.p2, l3.p1, l3.p0);
+    let dq0 = side_activity(l0.q2, l0.q1, l0.q0);
     let dq3 = side_activity(l3.q2, l3.q1, l3.q0);
-    let b = beta as u32;
-    if dp0 + dq0 + (dp3 + dq3) >= b {
+    let dpq0 = dp0 + dq0;
+    let dpq3 = dp3 + dq3;
+    let dp = dp0 + dp3;
+    let dq = dq0 + dq3;
+    let d = dpq0 + dpq3;
+    // dE is 0
+    if d >= beta {
         return LumaDecision::Skip;
     }
-    let side = (b + (b >> 1)) >> 3;
-    let weak = LumaDecision::Weak {
-        do_p1: dp0 + dp3 < side,
-        do_q1: dq0 + dq3 < side,
-    };
-    if !d_sam(b, tc, 2 * (dp0 + dq0), l0.p3, l0.p0, l0.q0, l0.q3) {
-        return weak;
+    let d_sam0 = d_sam(beta, tc, 2 * dpq0, l0.p3, l0.p0, l0.q0, l0.q3);
+    // where dSam0 is 0, dSam3 decides nothing
+    if d_sam0 {
+        let d_sam3 = d_sam(beta, tc, 2 * dpq3, l3.p3, l3.p0, l3.q0, l3.q3);
+        // dE is 2, whose filter reads no side flag
+        if d_sam3 {
+            return LumaDecision::Strong;
+        }
     }
-    if !d_sam(b, tc, 2 * (dp3 + dq3), l3.p3, l3.p0, l3.q0, l3.q3) {
-        return weak;
+    // dE is 1
+    let d_ep = dp < (beta + (beta >> 1)) >> 3;
+    let d_eq = dq < (beta + (beta >> 1)) >> 3;
+    LumaDecision::Weak {
+        do_p1: d_ep,
+        do_q1: d_eq,
     }
-    LumaDecision::Strong
 }

@@ -1,5 +1,6 @@
 -- `luma_decision` meets its contract: at each `return` the tests that led there say which case the decision is.
 -- Assumes nothing.
+use mathlib.Core.Logic.{⊎-elim}
 use borrow.Author.Needs.{needs}
 use Rattle.lines.proofs.Decided.{Activities, decided-skip, decided-weak0, decided-weak3, decided-strong}
 use Rattle.lines.proofs.decision.luma_decision.Statement.{statement}
@@ -12,43 +13,37 @@ first c = c .before .before .before
 abbrev call : tie.After-side-activity4 → tie.Start
 call c = first c .before
 
-sums : (c : tie.After-side-activity4)
+activities : (c : tie.After-side-activity4)
     → Activities (call c .args .l0) (call c .args .l3) (first c .side-activity .result)
     (c .before .before .side-activity2 .result) (c .before .side-activity3 .result) (c .side-activity4 .result)
-sums c =
+activities c =
     record {
-      dp0 = first c .side-activity .ensures .0;
-      dq0 = c .before .before .side-activity2 .ensures .0;
-      dp3 = c .before .side-activity3 .ensures .0;
-      dq3 = c .side-activity4 .ensures .0;
+      dp0-is = first c .side-activity .ensures .0;
+      dp3-is = c .before .before .side-activity2 .ensures .0;
+      dq0-is = c .before .side-activity3 .ensures .0;
+      dq3-is = c .side-activity4 .ensures .0;
     }
 
 returns : tie.Need-returns
-returns c = decided-skip _ _ (sums (c .before)) (c .if1 .taken)
+returns c = decided-skip _ _ (activities (c .before)) (c .if1 .taken)
 
 returns-2 : tie.Need-returns-2
 returns-2 c =
-    let flat0 = c .before in
-    let some = flat0 .before in
-    decided-weak0 _ _ (sums (some .before)) (some .if1 .left) (flat0 .d-sam .ensures) (c .if2 .taken)
+    let line3 = c .before in
+    let line0 = line3 .before .before in
+    let below = line0 .before in
+    decided-strong _ _ (activities (below .before)) (below .if1 .left) (line0 .d-sam .ensures)
+    (line3 .before .if2 .taken) (line3 .d-sam2 .ensures) (c .if3 .taken)
 
 returns-3 : tie.Need-returns-3
 returns-3 c =
-    let flat3 = c .before in
-    let strong0 = flat3 .before in
-    let flat0 = strong0 .before in
-    let some = flat0 .before in
-    decided-weak3 _ _ (sums (some .before)) (some .if1 .left) (flat0 .d-sam .ensures) (flat3 .d-sam2 .ensures)
-    (strong0 .if2 .left) (c .if3 .taken)
-
-returns-4 : tie.Need-returns-4
-returns-4 c =
-    let flat3 = c .before in
-    let strong0 = flat3 .before in
-    let flat0 = strong0 .before in
-    let some = flat0 .before in
-    decided-strong _ _ (sums (some .before)) (some .if1 .left) (flat0 .d-sam .ensures) (flat3 .d-sam2 .ensures)
-    (strong0 .if2 .left) (c .if3 .left)
+    let line0 = c .before in
+    let below = line0 .before in
+    ⊎-elim
+    (λ w. decided-weak3 _ _ (activities (below .before)) (below .if1 .left) (line0 .d-sam .ensures) (w .0 .taken)
+    (w .1 .ensures) (w .2 .left))
+    (λ w. decided-weak0 _ _ (activities (below .before)) (below .if1 .left) (line0 .d-sam .ensures) (w .left))
+    (c .if2 .came)
 
 pub luma-decision-spec : {M : Type 1} → statement M
 luma-decision-spec =
@@ -61,16 +56,14 @@ luma-decision-spec =
     (λ c. search needs)
     (λ c. search needs)
     (λ c. search needs)
+    (λ c. search needs)
+    (λ c. search needs)
     returns
     (λ c. search needs)
-    (λ c. search needs)
-    (λ c. search needs)
-    (λ c. search needs)
+    (λ c κs. search needs)
     (λ c. search needs)
     (λ c κs. search needs)
     returns-2
     (λ c. search needs)
     (λ c. search needs)
-    (λ c κs. search needs)
-    returns-3
-    returns-4)
+    returns-3)
