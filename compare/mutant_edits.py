@@ -40,14 +40,20 @@ THRESHOLDS = [
 ]
 
 DECISION = [
-    Edit("lines/decision", "(dp3 + dq3) >= b {", "(dp3 + dq3) > b {"),
     Edit("lines/decision", "if dpq >= beta >> 2 {", "if dpq > beta >> 2 {"),
     Edit("lines/decision", "if ends >= beta >> 3 {", "if ends > beta >> 3 {"),
     Edit("lines/decision", "step < (5 * (tc as u32) + 1) >> 1", "step < (5 * (tc as u32)) >> 1"),
-    Edit("lines/decision", "let side = (b + (b >> 1)) >> 3;", "let side = (b + (b >> 1)) >> 2;"),
-    Edit("lines/decision", "do_q1: dq0 + dq3 < side", "do_q1: dq0 + dq3 <= side"),
     Edit("lines/decision", "side_activity(l3.q2, l3.q1, l3.q0)", "side_activity(l0.q2, l0.q1, l0.q0)"),
-    Edit("lines/decision", "2 * (dp3 + dq3), l3.p3", "2 * (dp0 + dq0), l3.p3"),
+    Edit("lines/decision", "let dpq3 = dp3 + dq3;", "let dpq3 = dp3 + dq0;"),
+    Edit("lines/decision", "let dp = dp0 + dp3;", "let dp = dp0 + dq0;"),
+    Edit("lines/decision", "let d = dpq0 + dpq3;", "let d = dpq0 + dpq0;"),
+    Edit("lines/decision", "if d >= beta {", "if d > beta {"),
+    Edit("lines/decision", "if d_sam0 {", "if true {"),
+    Edit("lines/decision", "2 * dpq3, l3.p3", "2 * dpq0, l3.p3"),
+    Edit("lines/decision", "if d_sam3 {", "if true {"),
+    Edit("lines/decision", "dp < (beta + (beta >> 1)) >> 3", "dp < (beta + (beta >> 1)) >> 2"),
+    Edit("lines/decision", "let d_eq = dq < (", "let d_eq = dq <= ("),
+    Edit("lines/decision", "do_p1: d_ep,", "do_p1: d_eq,"),
     Edit("luma_windows/luma", "base + 3 * along, across)", "base + 2 * along, across)"),
 ]
 
