@@ -25,13 +25,15 @@ JUNK = 0xABCD  # what the output planes hold before the stage
 
 VERTICAL, HORIZONTAL, LOSSLESS, PCM = 1, 2, 4, 8
 
+PLAIN_SLICE = (0, 6, 6, 1)  # a slice with offsets 0
+
 
 class Picture:
     """Flat planes, no edges, one slice record and one tile, unless told otherwise. The output lengths are
     those of the format; a case may spoil any field afterwards."""
 
     def __init__(self, width=16, height=16, format=0, luma_depth=8, chroma_depth=8, log2_ctb=4, cb_offset=0,
-                 cr_offset=0, pcm_switch=0, slices=((0, 6, 6, 1),), columns=(0,), rows=(0,), qp=37):
+                 cr_offset=0, pcm_switch=0, slices=(PLAIN_SLICE,), columns=(0,), rows=(0,), qp=37):
         self.width, self.height, self.format = width, height, format
         self.luma_depth, self.chroma_depth, self.log2_ctb = luma_depth, chroma_depth, log2_ctb
         self.cb_offset, self.cr_offset, self.pcm_switch = cb_offset, cr_offset, pcm_switch
@@ -41,6 +43,12 @@ class Picture:
         self.cells = bytearray(bytes([qp + 64, 0, 0, 0, 0, 0, 0, 0]) * (width * height // 16))
         self.slices = bytearray(byte for record in slices for byte in record)
         self.columns, self.rows = list(columns), list(rows)
+
+    def with_slices(self, *records):
+        """The same picture with other slice records."""
+        again = Picture.__new__(Picture)
+        again.__dict__.update(self.__dict__, slices=bytearray(byte for record in records for byte in record))
+        return again
 
     def plane_width(self, plane):
         return self.width if plane == 0 else self.width // SCALES[self.format][0]

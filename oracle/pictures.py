@@ -15,8 +15,8 @@ sys.dont_write_bytecode = True
 
 from chroma_pictures import averages, check_parting, far_ends, parting, qpc_ends, tc_ends
 from ledger import SCALES
-from picture_case import Case, edges, moves, same_as, stays
-from picture_records import HORIZONTAL, LOSSLESS, PCM, VERTICAL, Picture, expected, random_picture, tally, unpack
+from picture_case import Case, edges, moves, outright, same_as, stays
+from picture_records import HORIZONTAL, LOSSLESS, PCM, PLAIN_SLICE, VERTICAL, Picture, expected, random_picture, tally, unpack
 from records import Random
 from stored import ROOT, is_checking, store
 
@@ -86,7 +86,7 @@ def band_figures():
                          ("B1: height 64, CTB 16: bands end at 20, 36, 52, 64", 64)]:
         for format in (0, 1):
             picture = edges(random_picture(random, width=16, height=height, format=format, luma_depth=8,
-                                           slices=[], columns=[0], rows=[0]))
+                                           slices=[PLAIN_SLICE], columns=[0], rows=[0]))
             picture.set_cells(lambda record, x, y: record.__setitem__(0, 64 + 40))
             for log2_ctb in (4, 6):
                 again = Picture.__new__(Picture)
@@ -141,7 +141,7 @@ def tiles():
 
 def slices():
     random = Random(6)
-    for name, records in [("no record", []), ("disabled", [(1, 6, 6, 1)]), ("offsets 0 and 0", [(0, 0, 0, 1)]),
+    for name, records in [("record 0, 6, 6, 1", [PLAIN_SLICE]), ("disabled", [(1, 6, 6, 1)]), ("offsets 0 and 0", [(0, 0, 0, 1)]),
                           ("offsets 12 and 12", [(0, 12, 12, 1)]), ("offsets 0 and 12", [(0, 0, 12, 1)]),
                           ("offsets 12 and 0", [(0, 12, 0, 1)]),
                           ("two, the second not across", [(0, 6, 6, 1), (0, 6, 6, 0)]),
@@ -216,15 +216,15 @@ def quantizers():
             yield Case(f"format {format}, Cb offset {cb}, Cr offset {cr}",
                        random_picture(random, width=width, height=height, format=format, cb_offset=cb, cr_offset=cr))
     for qp in range(16, 52, 5):
-        picture = edges(random_picture(random, width=32, height=16, format=1, luma_depth=8, slices=[]))
+        picture = edges(random_picture(random, width=32, height=16, format=1, luma_depth=8, slices=[PLAIN_SLICE]))
         picture.set_cells(lambda record, x, y: record.__setitem__(0, 64 + qp))
-        yield Case(f"every QP {qp}, empty slice list", picture)
+        yield Case(f"every QP {qp}", picture)
 
 
 def strengths():
     random = Random(9)
     for bs in (0, 1, 2):
-        picture = edges(random_picture(random, width=32, height=16, format=1, luma_depth=8, slices=[]), bs)
+        picture = edges(random_picture(random, width=32, height=16, format=1, luma_depth=8, slices=[PLAIN_SLICE]), bs)
         yield Case(f"every bS {bs}", picture, check=stays(picture) if bs == 0 else None)
     picture = step_at(8, 8, width=16, height=16)
     picture.set_cells(lambda record, x, y: record.__setitem__(1, 0))
@@ -393,12 +393,11 @@ def cells():
             for value in values if cell == 3 else values[:1]:
                 yield bad(f"cell {cell}: byte {byte} is {value}", cell, byte, value)
     yield bad("cell 3: all flags", 3, 1, 15, small(), 0)
-    for count in (0, 1, 3, 256, 257, 600):
-        own = max(count, 1)
-        for slice_number, number in [(own - 1, 0), (own, 9)]:
-            picture = Picture(8, 8, slices=[(0, 6, 6, 1)] * count)
+    for name, count in [("the record 0, 6, 6, 1", 1), *((f"{n} slice records", n) for n in (1, 3, 256, 257, 600))]:
+        for slice_number, number in [(count - 1, 0), (count, 9)]:
+            picture = Picture(8, 8, slices=[PLAIN_SLICE] * count)
             picture.cells[20:22] = slice_number.to_bytes(2, "little")
-            yield Case(f"{count} slice records, cell 2 of slice {slice_number}", picture, number, 2 if number else 0)
+            yield Case(f"{name}, cell 2 of slice {slice_number}", picture, number, 2 if number else 0)
     picture = colour()
     picture.cells[8 * 5 + 2], picture.cells[8 * 4 + 6] = 3, 9
     yield Case("cells 4 and 5 are bad: the first counts", picture, 9, 4)
@@ -475,7 +474,7 @@ def check_bands(cases, found):
 
 def main():
     checking = is_checking(__doc__)
-    cases = [case for group in GROUPS for case in group()]
+    cases = [outright(case) for group in GROUPS for case in group()]
     found, counts = expected([case.picture for case in cases] + [None])
     for case, (answer, planes, _) in zip(cases, found):
         assert answer == case.answer, (case.name, case.answer, answer)

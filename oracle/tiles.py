@@ -15,8 +15,9 @@ import sys
 sys.dont_write_bytecode = True
 
 from ledger import SCALES, verdict
-from picture_case import Case, moves, stays
-from picture_records import HORIZONTAL, LOSSLESS, PCM, VERTICAL, Picture, decided, fingerprint, oracle, random_picture
+from picture_case import Case, moves, outright, stays
+from picture_records import (HORIZONTAL, LOSSLESS, PCM, PLAIN_SLICE, VERTICAL, Picture, decided, fingerprint, oracle,
+                             random_picture)
 from pictures import FAR, FAULTS, colour, example, restored, step_at, t1
 from records import Random
 from stored import is_checking, store
@@ -198,7 +199,7 @@ def many():
     for format in range(4):
         yield Case(f"the last tile is half a CTB each way, format {format}",
                    busy(random, random_picture(random, width=24, height=24, format=format, luma_depth=8, log2_ctb=4,
-                                               columns=[0, 1], rows=[0, 1], slices=[])))
+                                               columns=[0, 1], rows=[0, 1], slices=[PLAIN_SLICE])))
 
 
 def figures():
@@ -324,7 +325,7 @@ def check_twins(accepted):
 
 def main():
     checking = is_checking(__doc__)
-    cases = [case for group in GROUPS for case in group()]
+    cases = [outright(case) for group in GROUPS for case in group()]
     for case in cases:
         assert verdict(case.picture) == case.answer, (case.name, case.answer, verdict(case.picture))
     filtered, counts, left = decided([case.picture for case in cases if case.answer == (0, 0)])

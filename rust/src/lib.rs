@@ -4,7 +4,7 @@
 //! picture or with one of ten [refusals](Cause), and filters each tile as if it were a picture alone.
 //!
 //! ```
-//! use tinladle::{Bs, Cell, Cells, ChromaFormat, Picture, PlanesBuf, Settings, deblock};
+//! use tinladle::{Bs, Cell, Cells, ChromaFormat, Picture, PlanesBuf, Settings, Slice, deblock};
 //!
 //! // 16 by 8, luma alone: 100 left of column 8 and 104 from there on, with an edge of bS 2 between.
 //! let settings = Settings::new(16, 8, ChromaFormat::Monochrome);
@@ -19,7 +19,7 @@
 //!     cb: &[],
 //!     cr: &[],
 //!     cells: cells.as_bytes(),
-//!     slices: &[],
+//!     slices: &Slice::new().to_bytes(), // one slice with offsets 0
 //!     tile_columns: &[0],
 //!     tile_rows: &[0],
 //! };
@@ -94,7 +94,8 @@ pub use settings::{ChromaFormat, Plane, Settings};
 /// # let cells = Cells::filled(&settings, Cell::new(37).unwrap());
 /// let mut y = vec![0u16; 64];
 /// let picture = Picture {
-///     settings, y: &y, cb: &[], cr: &[], cells: cells.as_bytes(), slices: &[], tile_columns: &[0], tile_rows: &[0],
+///     settings, y: &y, cb: &[], cr: &[], cells: cells.as_bytes(), slices: &Slice::new().to_bytes(),
+///     tile_columns: &[0], tile_rows: &[0],
 /// };
 /// let _ = deblock(&picture, &mut Planes { y: &mut y, cb: &mut [], cr: &mut [] });
 /// ```

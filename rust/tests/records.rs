@@ -73,7 +73,7 @@ fn no_settings_ask_for_more_cells_than_a_picture_can_have() {
             cb: &[],
             cr: &[],
             cells: cells.as_bytes(),
-            slices: &[],
+            slices: &Slice::new().to_bytes(),
             tile_columns: starts,
             tile_rows: starts,
         };

@@ -43,7 +43,7 @@ picture columns cell = record {
   };
   originals = record { y = table 32 16 (λ x y. cond (ltb x 16) 100 104); cb = []; cr = [] };
   cells = repeated 32 cell;
-  slices = [];
+  slices = 0 ∷ 6 ∷ 6 ∷ 1 ∷ [];
   columns = columns;
   rows = 0 ∷ [];
 }

@@ -74,7 +74,7 @@ abbrev one : List ℕ
 one = 0 ∷ []
 
 abbrev base : Picture
-base = picture 8 usual (grey flat) (cells 4) [] one one
+base = picture 8 usual (grey flat) (cells 4) (slices 1) one one
 
 -- ---- a picture with one part changed
 
@@ -142,9 +142,12 @@ cases =
     ∷ case (under (settings 3 8 4 (pos 0)) (showing (planes flat flat flat) base)) (planes flat flat flat) 0 0
     -- 24 columns are two CTBs of 16, rounded up
     ∷ case (tiled (0 ∷ 1 ∷ []) one (wide 3)) (grey (replicate 192 7)) 0 0
-    -- slice 1 is in a list of two and not in the empty one
+    -- slice 1 is in a list of two and not in a list of one
     ∷ case (sliced (slices 2) (celled (set (cells 4) (8 * 2 + 4) 1) base)) lent 0 0
     ∷ case (celled (set (cells 4) (8 * 2 + 4) 1) base) lent 9 2
+    -- slice 0 alone is in the empty list
+    ∷ case (sliced [] base) lent 0 0
+    ∷ case (sliced [] (celled (set (cells 4) (8 * 2 + 4) 1) base)) lent 9 2
     -- at depth 10 the QP goes down to −12
     ∷ case (under (settings 0 10 4 (pos 0)) (celled (set (cells 4) (8 * 2) 52) base)) lent 0 0
     ∷ case (under (settings 0 10 4 (pos 0)) (celled (set (cells 4) (8 * 2) 51) base)) lent 9 2

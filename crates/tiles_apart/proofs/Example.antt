@@ -58,7 +58,7 @@ picture columns cell sample = record {
   };
   originals = record { y = samples 16 16; cb = samples 8 8; cr = samples 8 8 };
   cells = repeated 4 (repeated 4 filtered ++ repeated 4 cell);
-  slices = [];
+  slices = 0 ∷ 6 ∷ 6 ∷ 1 ∷ [];
   columns = columns;
   rows = 0 ∷ [];
 }

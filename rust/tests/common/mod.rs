@@ -17,7 +17,7 @@ pub fn edges(qp: i32) -> Cell {
     Cell::new(qp).unwrap().left_edge(Bs::Two).top_edge(Bs::Two)
 }
 
-/// Flat planes of 100, every cell alike, one default slice, one tile.
+/// Flat planes of 100, every cell alike, one slice with offsets 0, one tile.
 pub fn flat(settings: Settings, cell: Cell) -> PictureBuf {
     let mut slices = Slices::new();
     slices.push(Slice::new()).unwrap();
