@@ -4,7 +4,7 @@ use std::time::{Duration, Instant};
 
 use crate::cut::{self, Part};
 use crate::ledger;
-use crate::picture::{CELL_BYTES, DEFAULT_SLICE, Picture};
+use crate::picture::{CELL_BYTES, PLAIN_SLICE, Picture};
 
 /// Gives up after so long.
 const PATIENCE: Duration = Duration::from_secs(60);
@@ -85,13 +85,13 @@ fn no_chroma(p: &mut Picture) {
 }
 
 fn one_slice(p: &mut Picture) {
-    p.slices = DEFAULT_SLICE.to_vec();
+    p.slices = PLAIN_SLICE.to_vec();
     set_cells(p, |cell| cell[4..6].fill(0));
 }
 
 fn plain_slices(p: &mut Picture) {
-    let length = p.slices.len() / DEFAULT_SLICE.len();
-    p.slices = DEFAULT_SLICE.repeat(length);
+    let length = p.slices.len() / PLAIN_SLICE.len();
+    p.slices = PLAIN_SLICE.repeat(length);
 }
 
 fn used_slices_only(p: &mut Picture) {

@@ -85,16 +85,19 @@ static void set_edge(struct Picture *p, int column, int bs) {
     for (int row = 0; row < HEIGHT / 4; row++) cell(p, column, row)[1] = 1, cell(p, column, row)[2] = (uint8_t)bs;
 }
 
-/* Left of column 8 all luma is 100, from there on 104; the edge at column 8 is the only one. Chroma is flat. */
+/* Left of column 8 all luma is 100, from there on 104; the edge at column 8 is the only one. Chroma is flat. One slice,
+ * with offsets 0. */
 static struct Picture accepted(void) {
+    static const uint8_t slice[4] = { 0, 6, 6, 1 };
     static const size_t bytes[BUFFERS] = {
-        2 * LUMA, 2 * CHROMA, 2 * CHROMA, 8 * CELLS, 0, 2, 2, 2 * LUMA, 2 * CHROMA, 2 * CHROMA, 8
+        2 * LUMA, 2 * CHROMA, 2 * CHROMA, 8 * CELLS, sizeof slice, 2, 2, 2 * LUMA, 2 * CHROMA, 2 * CHROMA, 8
     };
     struct Picture p = { WIDTH, HEIGHT, 1, 8, 8, 4, 0, 0, false, { { 0 } } };
     for (int i = 0; i < BUFFERS; i++) p.lent[i] = lend(bytes[i], i < INPUTS ? 0 : OUT_JUNK);
     for (int i = 0; i < LUMA; i++) samples(&p, Y)[i] = i % WIDTH < 8 ? 100 : 104;
     for (int i = 0; i < CHROMA; i++) samples(&p, CB)[i] = 60, samples(&p, CR)[i] = 70;
     for (int i = 0; i < CELLS; i++) cell(&p, i, 0)[0] = 37 + 64;
+    memcpy(at(&p.lent[SLICE]), slice, sizeof slice);
     set_edge(&p, 2, 2);
     return p;
 }
@@ -190,17 +193,29 @@ static struct Picture chroma_step(void) {
     return p;
 }
 
+/* Cb's step, moved by tc on each side; luma's as ever. */
+static void expect_chroma_step(struct Picture *p, const char *name, int tc) {
+    for (int i = 0; i < CHROMA; i++) {
+        int x = i % (WIDTH / 2);
+        uint16_t wanted = x < 7 ? 50 : x == 7 ? 50 + tc : x == 8 ? 60 - tc : 60;
+        expect(samples(p, OUT_CB)[i] == wanted, name, "a Cb sample");
+    }
+    expect_step(p, name, 0, HEIGHT);
+    expect_copied(p, name, CR, OUT_CR);
+}
+
 static void chroma_cases(void) {
     /* K1: 50 50 | 60 60 at QP 37 becomes 54 | 56. */
     struct Picture p = chroma_step();
     run(&p, "K1 in Cb", 0, 0);
-    for (int i = 0; i < CHROMA; i++) {
-        int x = i % (WIDTH / 2);
-        uint16_t wanted = x < 7 ? 50 : x == 7 ? 54 : x == 8 ? 56 : 60;
-        expect(samples(&p, OUT_CB)[i] == wanted, "K1 in Cb", "a Cb sample");
-    }
-    expect_step(&p, "K1 in Cb", 0, HEIGHT);
-    expect_copied(&p, "K1 in Cb", CR, OUT_CR);
+    expect_chroma_step(&p, "K1 in Cb", 4);
+    done(&p);
+
+    /* An empty slice list, lent as the null pointer, stands for 0, 6, 5, 1: tc row 34 in the place of 36. */
+    p = chroma_step();
+    resize(&p, SLICE, 0, 0);
+    run(&p, "K1's step, no slice", 0, 0);
+    expect_chroma_step(&p, "K1's step, no slice", 3);
     done(&p);
 
     /* T1: a tile border at column 16 closes that edge. */
@@ -292,6 +307,10 @@ static void refused_lists(void) {
     p = accepted();
     cell(&p, 1, 3)[4] = 1;
     refused(&p, "9: cell 25 has slice 1", 9, 25);
+    p = accepted();
+    resize(&p, SLICE, 0, 0);
+    cell(&p, 1, 3)[4] = 1;
+    refused(&p, "9: cell 25 has slice 1, no slice", 9, 25);
 
     p = accepted();
     samples(&p, Y)[5] = 256;

@@ -31,7 +31,7 @@ extern "C" {
  *   cb, cb_len                the original Cb samples, row by row, in the format's own size; none in format 0
  *   cr, cr_len                the original Cr samples, likewise
  *   cells, cells_len          8 bytes for each 4 by 4 luma block, row by row
- *   slices, slices_len        4 bytes for each slice, at most 2400 bytes; none stands for one slice 0, 6, 6, 1
+ *   slices, slices_len        4 bytes for each slice, at most 2400 bytes; an empty list stands for one slice 0, 6, 5, 1
  *   tile_columns, columns_len the first CTB column of each tile column, 1 to 20 entries: 0, then rising
  *   tile_rows, rows_len       the first CTB row of each tile row, 1 to 22 entries: 0, then rising
  *
@@ -48,6 +48,9 @@ extern "C" {
  *   1     slice_beta_offset_div2 plus 6, 0 to 12
  *   2     slice_tc_offset_div2 plus 6, 0 to 12
  *   3     1 where the filter runs across its left and top borders, else 0
+ *
+ * An empty slice list stands for the one slice 0, 6, 5, 1: filtered, slice_beta_offset_div2 0, slice_tc_offset_div2 -1.
+ * Then every cell is of slice 0, else it is refused. A slice with both offsets 0 is passed outright: 0, 6, 6, 1.
  *
  * WHICH EDGES ARE FILTERED. Nothing is refused for these rules: an edge that one of them leaves out is silently not
  * filtered, and the picture comes out different.

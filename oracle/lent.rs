@@ -7,8 +7,10 @@ pub const PCM: u8 = 8;
 
 pub const CELL_BYTES: usize = 8;
 pub const SLICE_BYTES: usize = 4;
-/// The record that an empty slice list stands for.
-pub const DEFAULT_SLICE: [u8; SLICE_BYTES] = [0, 6, 6, 1];
+/// The record that an empty slice list stands for (document 02, C-13): tc offset div2 is -1.
+pub const DEFAULT_SLICE: [u8; SLICE_BYTES] = [0, 6, 5, 1];
+/// A slice that is filtered, with offsets 0.
+pub const PLAIN_SLICE: [u8; SLICE_BYTES] = [0, 6, 6, 1];
 
 pub const PLANE_NAMES: [&str; 3] = ["Y", "Cb", "Cr"];
 
@@ -73,6 +75,11 @@ impl Picture {
     pub fn suppressed(&self, number: usize) -> bool {
         let flags = self.cell(number)[1];
         flags & LOSSLESS != 0 || (flags & PCM != 0 && self.pcm_switch)
+    }
+
+    /// The same picture with the record passed outright that its empty slice list stands for; `None` where it has records.
+    pub fn outright(&self) -> Option<Picture> {
+        self.slices.is_empty().then(|| Picture { slices: DEFAULT_SLICE.to_vec(), ..self.clone() })
     }
 
     pub fn one_tile(&self) -> bool {

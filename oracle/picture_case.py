@@ -19,7 +19,7 @@ class Case:
 
 
 def outright(case):
-    """Passes the record outright that an empty slice list stands for."""
+    """Passes the record outright that an empty slice list stood for before document 02's C-13, so that the output stays."""
     if not case.picture.slices:
         case.picture = case.picture.with_slices(PLAIN_SLICE)
     return case

@@ -25,6 +25,7 @@ JUNK = 0xABCD  # what the output planes hold before the stage
 
 VERTICAL, HORIZONTAL, LOSSLESS, PCM = 1, 2, 4, 8
 
+DEFAULT_SLICE = (0, 6, 5, 1)  # what an empty slice list stands for: document 02, C-13
 PLAIN_SLICE = (0, 6, 6, 1)  # a slice with offsets 0
 
 
@@ -153,12 +154,20 @@ def decided(pictures):
     has an index above 57 the second program (docs/DIFFERENCES.md, 1), which must give the Rust's planes everywhere else.
     Besides, the Rust's counts, and whether each picture is left to the second program."""
     planes, counts = oracle(pictures)
+    check_fallback(pictures, planes)
     second, says = oracle(pictures, "second")
     numbers = set(map(int, says.split()))
     left = [number in numbers for number in range(1, len(pictures) + 1)]
     for number, (own, other, parts) in enumerate(zip(planes, second, left), 1):
         assert parts or own == other, f"the second program and the Rust differ on accepted picture {number}"
     return [other if parts else own for own, other, parts in zip(planes, second, left)], counts, left
+
+
+def check_fallback(pictures, planes):
+    """The Rust leaves of each picture with an empty slice list what it leaves with the record that the list stands for."""
+    empty = [(picture, own) for picture, own in zip(pictures, planes) if not picture.slices]
+    again, _ = oracle([picture.with_slices(DEFAULT_SLICE) for picture, _ in empty])
+    assert [own for _, own in empty] == again, "the Rust's fallback is another record than the one that is passed"
 
 
 def expected(pictures):
@@ -304,7 +313,8 @@ def damage(random, picture):
 
 
 def random_input(count, seed):
-    """Records, three in ten of them damaged once to three times; some damage is none."""
+    """Records, three in ten of them damaged once to three times; some damage is none. A picture with an empty slice list
+    comes a second time, with the record that the list stands for."""
     random = Random(seed)
     for _ in range(count):
         picture = random_picture(random, *random.pick((64, 48), (64, 48), (64, 48), (64, 48), (24, 24), (200, 136)))
@@ -312,13 +322,24 @@ def random_input(count, seed):
             for _ in range(random.pick(1, 1, 1, 2, 3)):
                 damage(random, picture)
         yield picture.pack()
+        if not picture.slices:
+            yield picture.with_slices(DEFAULT_SLICE).pack()
+
+
+def check_twins(data, given):
+    """The program answers each picture with an empty slice list as the next, which has the record; how many there are."""
+    empty = [number for number, (picture, _) in enumerate(unpack(data)) if picture and not picture.slices]
+    for number in empty:
+        own, again = (text.split()[1:] for text in given[number:number + 2])
+        assert own == again, f"records {number + 1} and {number + 2}, without the slice record and with it, are answered otherwise"
+    return len(empty)
 
 
 def compare(input_path, expected_path, actual_path):
     data, expected, actual = (open(path, "rb").read() for path in (input_path, expected_path, actual_path))
     wanted, given = (text.decode(errors="replace").splitlines(keepends=True) for text in (expected, actual))
     assert len(wanted) == sum(1 for _ in unpack(data)), "there is no line for each picture"
-    print(f"{len(wanted)} pictures; {tally(wanted)}")
+    print(f"{len(wanted)} pictures, {check_twins(data, given)} of them with an empty slice list; {tally(wanted)}")
     if wanted == given:
         print("no difference")
         return 0

@@ -13,6 +13,7 @@ import sys
 
 sys.dont_write_bytecode = True
 
+import empty_list_pictures
 from chroma_pictures import averages, check_parting, far_ends, parting, qpc_ends, tc_ends
 from ledger import SCALES
 from picture_case import Case, edges, moves, outright, same_as, stays
@@ -465,6 +466,12 @@ GROUPS = [figures, tile_figures, band_figures, formats_and_depths, sizes, tiles,
           several_faults, tc_ends, qpc_ends, averages, far_ends, example]
 
 
+def empty_lists():
+    yield from empty_list_pictures.thresholds()
+    yield from empty_list_pictures.twins()
+    yield from empty_list_pictures.refusals(FAULTS, colour)
+
+
 def check_bands(cases, found):
     """The cases of band_figures come in pairs that give the same planes."""
     pairs = [(case, planes) for case, (_, planes, _) in zip(cases, found) if "run at log2 CTB" in case.name]
@@ -474,7 +481,7 @@ def check_bands(cases, found):
 
 def main():
     checking = is_checking(__doc__)
-    cases = [outright(case) for group in GROUPS for case in group()]
+    cases = [outright(case) for group in GROUPS for case in group()] + list(empty_lists())
     found, counts = expected([case.picture for case in cases] + [None])
     for case, (answer, planes, _) in zip(cases, found):
         assert answer == case.answer, (case.name, case.answer, answer)

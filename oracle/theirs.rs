@@ -4,7 +4,7 @@ use std::cell::Cell;
 use std::panic::{AssertUnwindSafe, catch_unwind};
 
 use crate::deblock::{self, LumaDecision};
-use crate::picture::{CELL_BYTES, Picture, SLICE_BYTES};
+use crate::picture::{CELL_BYTES, DEFAULT_SLICE, Picture, SLICE_BYTES};
 use crate::{config, decode, exec, threadpool, tiles};
 
 /// How often the kernels were called, for luma by the decision.
@@ -110,6 +110,7 @@ pub fn context<'a>(
 ) -> deblock::DeblockCtx<'a> {
     let (sub_w, sub_h) = p.plane_scales(1);
     let (cw, ch) = p.plane_size(1);
+    let fallback = slice_settings(&DEFAULT_SLICE);
     deblock::DeblockCtx {
         exec,
         w: p.width as usize,
@@ -125,10 +126,10 @@ pub fn context<'a>(
         chroma_idc: p.format as u8,
         cb_qp_offset: p.cb_offset,
         cr_qp_offset: p.cr_offset,
-        // The next three and `loop_filter_across_slices` serve an empty slice list: one record 0, 6, 6, 1.
-        beta_offset: 0,
-        tc_offset: 0,
-        deblocking_disabled: false,
+        // The next three and `loop_filter_across_slices` serve an empty slice list: document 02, C-13. These offsets are not halved.
+        beta_offset: 2 * fallback.beta_offset_div2,
+        tc_offset: 2 * fallback.tc_offset_div2,
+        deblocking_disabled: fallback.disabled,
         default_qp: 0,
         log2_ctb: p.log2_ctb,
         qp_y_map: &l.qp,
@@ -142,7 +143,7 @@ pub fn context<'a>(
         slice_deblock: &l.slices,
         slice_lf_across: &l.across,
         pcm_loop_filter_disabled: p.pcm_switch,
-        loop_filter_across_slices: true,
+        loop_filter_across_slices: DEFAULT_SLICE[3] != 0,
         tile_grid: grid,
     }
 }

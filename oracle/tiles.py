@@ -15,6 +15,7 @@ import sys
 sys.dont_write_bytecode = True
 
 from ledger import SCALES, verdict
+from empty_list_pictures import far_apart, otherwise
 from picture_case import Case, moves, outright, stays
 from picture_records import (HORIZONTAL, LOSSLESS, PCM, PLAIN_SLICE, VERTICAL, Picture, decided, fingerprint, oracle,
                              random_picture)
@@ -270,6 +271,18 @@ def highest():
     yield Marked("C-17: chroma indices 63 and 60, tiles [0, 1, 3] by [0, 2]", picture)
 
 
+def empty_lists():
+    """No slice record: the list of each cut is empty too (document 02, C-13)."""
+    random = Random(36)
+    for format in range(4):
+        picture = busy(random, random_picture(random, width=56, height=40, format=format, luma_depth=8, chroma_depth=10,
+                                              log2_ctb=4, cb_offset=0, cr_offset=0, columns=[0, 1, 3], rows=[0, 2],
+                                              pcm_switch=1, slices=[]))
+        far_apart(random, picture)
+        mark_borders(random, picture)
+        yield Case(f"C-13: no slice record, format {format}, tiles [0, 1, 3] by [0, 2]", picture, check=otherwise(picture))
+
+
 GROUPS = [figures, grids, many, twins, refusals, highest, example]
 
 
@@ -325,7 +338,7 @@ def check_twins(accepted):
 
 def main():
     checking = is_checking(__doc__)
-    cases = [outright(case) for group in GROUPS for case in group()]
+    cases = [outright(case) for group in GROUPS for case in group()] + list(empty_lists())
     for case in cases:
         assert verdict(case.picture) == case.answer, (case.name, case.answer, verdict(case.picture))
     filtered, counts, left = decided([case.picture for case in cases if case.answer == (0, 0)])

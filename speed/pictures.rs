@@ -1,6 +1,6 @@
 //! The pictures that are timed, made from a seed.
 
-use crate::picture::{CELL_BYTES, DEFAULT_SLICE, Picture};
+use crate::picture::{CELL_BYTES, PLAIN_SLICE, Picture};
 
 pub const LOG2_CTB: u32 = 6;
 
@@ -131,7 +131,7 @@ fn picture(size: usize, depth: u32, cells: Cells, random: &mut Random) -> Timed 
         out_lengths: [0, 1, 2].map(|k| planes[k].len()),
         planes,
         cells: cells.bytes,
-        slices: DEFAULT_SLICE.to_vec(),
+        slices: PLAIN_SLICE.to_vec(),
         columns: vec![0],
         rows: vec![0],
     };

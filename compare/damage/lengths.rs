@@ -1,7 +1,7 @@
 //! Cause 6: each list one shorter and one longer than it may be.
 
 use super::{Kind, kind};
-use crate::picture::{DEFAULT_SLICE, Picture};
+use crate::picture::{PLAIN_SLICE, Picture};
 use crate::random::Random;
 
 fn shorter(p: &mut Picture, plane: usize, r: &mut Random) -> bool {
@@ -83,7 +83,7 @@ pub const KINDS: &[Kind] = &[
         p.slices.len() % 4 != 0
     }),
     kind("601 slices", 6, |p, _| {
-        p.slices = DEFAULT_SLICE.repeat(601);
+        p.slices = PLAIN_SLICE.repeat(601);
         true
     }),
     kind("no tile column", 6, |p, _| {

@@ -49,6 +49,12 @@
 //! - No edge between two tiles is filtered. A stream that filters across its tiles
 //!   (`loop_filter_across_tiles_enabled_flag` 1) is passed as one tile: `&[0]` in [`Picture::tile_columns`] and in
 //!   [`Picture::tile_rows`].
+//!
+//! # Without slice records
+//!
+//! An empty [`Picture::slices`] stands for one slice, [`Slice::of_empty_list`]: filtered, across its borders too, with
+//! `slice_beta_offset_div2` 0 and `slice_tc_offset_div2` -1. Every cell is then of slice 0. To filter with offsets 0
+//! pass [`Slice::new`] outright.
 
 // The example in README.md is tested with the others.
 #[cfg(doctest)]

@@ -16,7 +16,10 @@ pub struct Picture<'a> {
     pub cr: &'a [u16],
     /// The cell records, 8 bytes each: [`Cells::as_bytes`](crate::Cells::as_bytes).
     pub cells: &'a [u8],
-    /// The slice records, 4 bytes each: [`Slices::as_bytes`](crate::Slices::as_bytes). None stands for one slice,
+    /// The slice records, 4 bytes each: [`Slices::as_bytes`](crate::Slices::as_bytes).
+    ///
+    /// **An empty list stands for one slice with `slice_tc_offset_div2` -1**,
+    /// [`Slice::of_empty_list`](crate::Slice::of_empty_list). A slice with offsets 0 is passed outright, as
     /// [`Slice::new`](crate::Slice::new).
     pub slices: &'a [u8],
     /// The first CTB column of each tile column, 1 to 20 of them: 0, then rising.

@@ -110,13 +110,25 @@ fn a_suppressed_cell_keeps_its_samples_and_closes_no_edge() {
     assert_eq!(run(&picture).unwrap().y, samples(16, 8, |x, _| line[x]));
 }
 
+/// S3's samples by document 02's C-13: without slice records tc is that of row 37, 4, and not of row 39, 5.
 #[test]
-fn no_slices_stand_for_the_default_slice() {
+fn no_slices_stand_for_one_with_tc_offset_div2_minus_1() {
+    let mut picture = luma(16, 8, 37, |x, _| if x < 8 { 100 } else { 113 });
+    let mut line_by = |slices: &[u8]| {
+        picture.slices = slices.to_vec();
+        run(&picture).unwrap().y[4..12].to_vec()
+    };
+    let empty = line_by(&[]);
+    assert_eq!(empty, [100, 100, 102, 104, 109, 111, 113, 113]);
+    assert_eq!(line_by(&Slice::of_empty_list().to_bytes()), empty);
+    assert_eq!(line_by(&Slice::new().to_bytes()), SEGMENTS[2].3);
+    assert_eq!(Slice::of_empty_list(), Slice::new().tc_offset_div2(-1).unwrap());
+}
+
+#[test]
+fn a_disabled_slice_keeps_its_samples() {
     let mut picture = luma(16, 8, 37, |x, _| if x < 8 { 100 } else { 104 });
-    let one = run(&picture).unwrap();
-    picture.slices.clear();
-    assert_eq!(run(&picture).unwrap(), one);
-    picture.slices = tinladle::Slice::new().disabled().to_bytes().to_vec();
+    picture.slices = Slice::new().disabled().to_bytes().to_vec();
     assert_eq!(run(&picture).unwrap(), picture.planes);
 }
 

@@ -51,6 +51,7 @@ use Rattle.picture.proofs.Ledger.{
   none-out,
   none-part,
   not-eq,
+  number-accepts,
   once-in,
   once-out,
   then-in,
@@ -174,6 +175,12 @@ unfolding verdict
 accepted-by p outputs e =
     let (picture, lent) = picture-by (badPlanes p outputs) p e in
     record { picture = picture; outputs-long = planes-out p outputs lent }
+
+-- its number says whether a picture is accepted
+pub accepted-number : (p : Picture) (outputs : Planes) → verdict p outputs .number ≡ 0
+    → verdict p outputs ≡ acceptance
+unfolding verdict
+accepted-number p outputs e = number-accepts (ledger (badPlanes p outputs) cellRules p) (omega arith) e
 
 -- ---- and none applies to an accepted one
 

@@ -37,7 +37,7 @@ cell-made l n s e =
 -- ---- slices: an empty list, and one with records
 
 pub slice-default : (l : List ℕ) (n : ℕ) → length l ≡ 0
-    → record { disabled = false; beta = 6; tc = 6; across = true } ≡ sliceAt l n
+    → record { disabled = false; beta = 6; tc = 5; across = true } ≡ sliceAt l n
 unfolding sliceAt
 slice-default [] n e = refl
 slice-default (x ∷ r) n e = absurd (omega arith)

@@ -1,14 +1,14 @@
 -- Document 01: "Slice records, 4 bytes, at most 600, no header: disabled (0 or 1); beta offset div2 plus 6; tc offset
--- div2 plus 6 (each 0 to 12); filter across (0 or 1). An empty list stands for one record 0, 6, 6, 1."
+-- div2 plus 6 (each 0 to 12); filter across (0 or 1)." What an empty list stands for is document 02's, C-13.
 use Prim.Native.Nat.{ℕ, _+_, _*_, _/_}
 use mathlib.Core.List.{List, [], _∷_}
 use lib.Dec.{eqb}
 use lib.ListN.{length, getD}
 use Rattle.picture.specs.declared.Slice.{Slice}
 
--- the record that an empty list stands for
+-- C-13: "The empty list shall stand for the record 0, 6, 5, 1", whose tc offset div2 is -1
 abbrev pub defaultRecord : List ℕ
-defaultRecord = 0 ∷ 6 ∷ 6 ∷ 1 ∷ []
+defaultRecord = 0 ∷ 6 ∷ 5 ∷ 1 ∷ []
 
 -- byte b of slice record n
 abbrev pub sliceByte : List ℕ → ℕ → ℕ → ℕ

@@ -6,11 +6,11 @@ ghost use lib.ListN.{length};
 ghost use Rattle.picture.specs.Lent.{given};
 ghost use Rattle.picture.specs.Slice.{sliceAt, sliceCount};
 
-// The record that an empty list stands for: 0, 6, 6, 1.
+// The record that an empty list stands for: 0, 6, 5, 1.
 const DEFAULT: Slice = Slice {
     disabled: false,
     beta: 6,
-    tc: 6,
+    tc: 5,
     across: true,
 };
 

@@ -2,11 +2,13 @@
 
 use super::{OutOfRange, byte};
 
-/// One slice of a picture. [`Slice::new`] is the slice that an empty list stands for.
+/// One slice of a picture. A picture without any stands for one with [`Slice::of_empty_list`], which is not
+/// [`Slice::new`].
 ///
 /// ```
 /// use tinladle::Slice;
 /// assert_eq!(Slice::new().to_bytes(), [0, 6, 6, 1]);
+/// assert_eq!(Slice::of_empty_list().to_bytes(), [0, 6, 5, 1]);
 /// assert_eq!(Slice::new().beta_offset_div2(-6)?.tc_offset_div2(3)?.not_across().to_bytes(), [0, 0, 9, 0]);
 /// # Ok::<(), tinladle::OutOfRange>(())
 /// ```
@@ -30,6 +32,12 @@ impl Slice {
     /// A slice that is filtered, with offsets 0, across its left and top borders too.
     pub fn new() -> Self {
         Slice { bytes: [0, 6, 6, 1] }
+    }
+
+    /// The slice that an empty list stands for: as [`Slice::new`], but with `slice_tc_offset_div2` -1. To filter with
+    /// offsets 0 a picture passes [`Slice::new`] outright.
+    pub fn of_empty_list() -> Self {
+        Slice { bytes: [0, 6, 5, 1] }
     }
 
     /// The left and top edges of its cells are not filtered.
