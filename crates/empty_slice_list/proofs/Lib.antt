@@ -1,0 +1,4 @@
+pub mod Alike
+pub mod Stands
+pub mod EmptyList
+pub mod Example
