@@ -6,7 +6,7 @@ use crate::cut;
 use crate::gate;
 use crate::ledger;
 use crate::ours;
-use crate::picture::{DEFAULT_SLICE, PLANE_NAMES, Picture};
+use crate::picture::{PLANE_NAMES, Picture};
 use crate::random::Random;
 use crate::standard;
 use crate::theirs::{Calls, Grid, Rust};
@@ -54,14 +54,14 @@ fn same_counts(coverage: &Coverage, calls: &Calls) -> Result<(), String> {
     Ok(())
 }
 
-/// An empty slice list stands for one record.
-fn check_empty_list(p: &Picture, planes: &[Vec<u16>; 3], random: &mut Random) -> Result<(), String> {
-    if p.slices.is_empty() {
-        let with_record = Picture { slices: DEFAULT_SLICE.to_vec(), ..p.clone() };
-        let answer = ours::run(&with_record, random)?;
-        same_planes(p, planes, &answer.planes, "the explicit slice record")?;
+/// The customer's Rust with the fallback that it is given for an empty slice list, and with the record that the list stands for.
+fn check_fallback(p: &Picture, theirs: &[Vec<u16>; 3], rust: &mut Rust) -> Result<(), String> {
+    match p.outright() {
+        Some(with_record) if rust.run(&with_record, Grid::Given)?.0 != *theirs => {
+            Err("the customer's Rust filters otherwise with the slice record than by its fallback".into())
+        }
+        _ => Ok(()),
     }
-    Ok(())
 }
 
 /// The planes that the stage leaves, where its answer is the ledger's.
@@ -72,6 +72,18 @@ fn answered(p: &Picture, random: &mut Random) -> Result<[Vec<u16>; 3], String> {
         return Err(format!("stage {}, place {}; ledger {number}, place {place}", answer.number, answer.place));
     }
     Ok(answer.planes)
+}
+
+/// An empty slice list stands for one record: the stage answers alike with the record passed outright, and leaves the same planes; on a
+/// refusal `ours` has seen that it wrote none.
+fn check_empty_list(p: &Picture, planes: &[Vec<u16>; 3], random: &mut Random) -> Result<(), String> {
+    let Some(with_record) = p.outright() else { return Ok(()) };
+    let (number, place) = ledger::verdict(p);
+    let answer = ours::run(&with_record, random)?;
+    if (answer.number, answer.place) != (number, place) {
+        return Err(format!("stage {number}, place {place}; with the slice record {}, place {}", answer.number, answer.place));
+    }
+    if number == 0 { same_planes(p, planes, &answer.planes, "the explicit slice record") } else { Ok(()) }
 }
 
 /// The customer's Rust, where it decides.
@@ -92,7 +104,7 @@ fn check_accepted(p: &Picture, planes: &[Vec<u16>; 3], rust: &mut Rust, random: 
     assert_eq!(left_out, coverage.chroma.above_57 != [0; 6], "the tally counts other segments than those that part");
     let absent_grid = !left_out && check_rust(p, planes, &theirs, rust)?;
     same_planes(p, planes, &standard::deblocked(p), "second program")?;
-    check_empty_list(p, planes, random)?;
+    check_fallback(p, &theirs, rust)?;
     same_counts(&coverage, &calls)?;
     let moved = [0, 1, 2].map(|k| planes[k].iter().zip(&p.planes[k]).filter(|(a, b)| a != b).count() as u64);
     Ok(Agreed { coverage, calls, moved, tiles, absent_grid, left_out, parted: *planes != theirs })
@@ -101,8 +113,8 @@ fn check_accepted(p: &Picture, planes: &[Vec<u16>; 3], rust: &mut Rust, random: 
 /// Both sides on one picture, accepted or not. `None` stands for a refusal on which they agree; an error says what differs.
 pub fn check(p: &Picture, rust: &mut Rust, random: &mut Random) -> Result<Option<Agreed>, String> {
     let planes = answered(p, random)?;
-    if ledger::verdict(p) != (0, 0) {
-        return Ok(None);
-    }
-    check_accepted(p, &planes, rust, random).map(Some)
+    let accepted = ledger::verdict(p) == (0, 0);
+    let agreed = if accepted { Some(check_accepted(p, &planes, rust, random)?) } else { None };
+    check_empty_list(p, &planes, random)?;
+    Ok(agreed)
 }

@@ -86,7 +86,7 @@ fn look_at(picture: &Picture, kinds: &[usize], rust: &mut Rust, random: &mut Ran
     assert_eq!(kinds.is_empty(), verdict == (0, 0), "the generator made another picture than it should");
     match check::check(picture, rust, random)? {
         Some(agreed) => tally.count_accepted(picture, &agreed),
-        None => tally.count_refused(verdict, kinds),
+        None => tally.count_refused(picture, verdict, kinds),
     }
     Ok(())
 }

@@ -101,7 +101,7 @@ GATE = [
          "with tc 0 the chroma filter leaves every sample as it is (theorem chroma-tc-zero)"),
     Edit("picture/slices", "beta: 6,", "beta: 5,"),
     Edit("picture/slices", "across: true,", "across: false,",
-         "it serves an empty slice list, where all cells have slice number 0, and within one slice the mark is not looked at"),
+         "the record of an empty list shows no filter across: all cells have slice number 0 (theorem across-unseen)"),
     Edit("picture/cells", "256 * wide(cells[at + 5])", "wide(cells[at + 5])"),
 ]
 
@@ -229,4 +229,13 @@ MISTAKES = [
     }"""),
 ]
 
-EDITS = [*THRESHOLDS, *DECISION, *LINES, *WINDOWS, *GATE, *TILES_AND_POSITIONS, *PASSES, *RESTORATION, *CHECKS, *MISTAKES]
+# The empty slice list of document 02's C-13: the record of before, one step further, a disabled one, and for any one record.
+EMPTY_LIST = [
+    Edit("picture/slices", "tc: 5,", "tc: 6,"),
+    Edit("picture/slices", "tc: 5,", "tc: 4,"),
+    Edit("picture/slices", "disabled: false,", "disabled: true,"),
+    Edit("picture/slices", "if slices.len() == 0 {", "if slices.len() <= 4 {"),
+]
+
+EDITS = [*THRESHOLDS, *DECISION, *LINES, *WINDOWS, *GATE, *TILES_AND_POSITIONS, *PASSES, *RESTORATION, *CHECKS, *MISTAKES,
+         *EMPTY_LIST]

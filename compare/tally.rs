@@ -28,6 +28,7 @@ pub struct Tally {
     left_out: u64,
     parted: u64,
     empty_lists: u64,
+    refused_empty_lists: u64,
     many_slices: u64,
     luma_samples: u64,
     sides: [u64; 5],
@@ -83,8 +84,9 @@ impl Tally {
         count(&mut self.ctbs[p.log2_ctb as usize - 4], luma + chroma);
     }
 
-    pub fn count_refused(&mut self, verdict: Verdict, kinds: &[usize]) {
+    pub fn count_refused(&mut self, p: &Picture, verdict: Verdict, kinds: &[usize]) {
         self.refused[verdict.0 as usize] += 1;
+        self.refused_empty_lists += u64::from(p.slices.is_empty());
         self.later_places += u64::from(verdict.1 > 0);
         self.several += u64::from(kinds.len() > 1);
         kinds.iter().for_each(|&kind| self.kinds[kind] += 1);
@@ -109,6 +111,7 @@ impl Tally {
         self.left_out += more.left_out;
         self.parted += more.parted;
         self.empty_lists += more.empty_lists;
+        self.refused_empty_lists += more.refused_empty_lists;
         self.many_slices += more.many_slices;
         self.luma_samples += more.luma_samples;
         add(&mut self.formats, &more.formats);
@@ -165,6 +168,7 @@ impl Tally {
     fn print_refusals(&self) {
         let refused: u64 = self.refused.iter().sum();
         println!("refused {refused}; several kinds of damage at once {}; place not 0 {}", self.several, self.later_places);
+        println!("  empty slice list {}", self.refused_empty_lists);
         let numbers: Vec<String> = (1..=10).map(|n| format!("{n}: {}", self.refused[n])).collect();
         println!("  by number: {}", numbers.join(", "));
         println!("  by kind of damage:");
