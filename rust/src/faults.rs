@@ -115,14 +115,17 @@ fn cell(picture: &Picture<'_>, place: u64) -> String {
     };
     // Refusal 3 comes first, so the depth is in range here.
     let lowest = 64 - 6 * i64::from(picture.settings.luma_depth.saturating_sub(8));
-    let slices = (picture.slices.len() / Slice::BYTES).max(1);
     let own = u16::from_le_bytes([low, high]);
+    let (slices, slice) = match picture.slices.len() / Slice::BYTES {
+        0 => (1, format!("slice {own}, and without slice records there is slice 0 alone")),
+        slices => (slices, format!("slice {own} of {slices}")),
+    };
     those([
         (i64::from(qp) < lowest || qp > 64 + 51, format!("QP byte {qp}")),
         (flags > 15, format!("flags byte {flags}")),
         (left > 2, format!("left bS {left}")),
         (top > 2, format!("top bS {top}")),
-        (usize::from(own) >= slices, format!("slice {own} of {slices}")),
+        (usize::from(own) >= slices, slice),
         (six != 0, format!("byte 6 is {six}")),
         (seven != 0, format!("byte 7 is {seven}")),
     ])

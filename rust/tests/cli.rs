@@ -6,7 +6,7 @@ use std::fs;
 
 use common::tool::{folder, load, refused, s1, s1_filtered, store, tinladle};
 use common::{edges, flat, samples, small};
-use tinladle::{ChromaFormat, PictureBuf, Settings};
+use tinladle::{ChromaFormat, PictureBuf, Settings, Slice};
 
 /// Five samples on each of the 16 rows.
 const S1_TABLE: [&str; 4] = [
@@ -26,6 +26,32 @@ fn deblock_writes_the_filtered_picture() {
     assert_eq!(load(&at.join("b.pic")), s1_filtered(), "all but the moved samples is as it was");
     assert_eq!(load(&at.join("a.pic")), s1());
     assert_eq!(fs::read_dir(&at).unwrap().count(), 2, "no other file is left");
+}
+
+#[test]
+fn a_picture_without_slices_is_told_what_they_stand_for() {
+    let at = folder("no_slices");
+    let without = PictureBuf { slices: vec![], ..s1() };
+    let listed = PictureBuf { slices: Slice::of_empty_list().to_bytes().to_vec(), ..s1() };
+    let verdict = "a.pic: accepted\n  no slice record: one slice with tc offset div2 -1\n";
+    store(&at.join("a.pic"), without.clone());
+    store(&at.join("b.pic"), listed);
+    let verbs: [&[&str]; 4] =
+        [&["check", "a.pic"], &["tiles", "a.pic"], &["deblock", "a.pic", "a2.pic"], &["picture", "a.pic", "a.ppm"]];
+    for words in verbs {
+        let ran = tinladle(&at, words);
+        assert_eq!((ran.status, ran.err.as_str()), (0, ""), "{words:?}");
+        assert!(ran.out.starts_with(verdict), "{words:?}: {}", ran.out);
+    }
+    assert_eq!(tinladle(&at, &["check", "b.pic"]).out, "b.pic: accepted\n");
+    assert_eq!(tinladle(&at, &["deblock", "b.pic", "b2.pic"]).status, 0);
+    assert_eq!(tinladle(&at, &["diff", "a2.pic", "b2.pic"]).status, 0, "the same samples with the record outright");
+    assert_eq!(load(&at.join("a2.pic")).slices, without.slices, "no slice is written into the file");
+    let other = PictureBuf { cells: vec![], ..without };
+    store(&at.join("c.pic"), other);
+    let refused = tinladle(&at, &["check", "c.pic"]);
+    assert_eq!(refused.status, 1);
+    assert!(!refused.out.contains("no slice record"), "{}", refused.out);
 }
 
 #[test]

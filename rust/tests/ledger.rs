@@ -165,7 +165,8 @@ fn row_9_the_other_bytes() {
         p.slices.clear();
         p.cells[3 * Cell::BYTES + 4] = 1;
     });
-    refused(&picture, 9, 3, "refused 9: cell 3 is out of range: slice 1 of 1");
+    let why = "slice 1, and without slice records there is slice 0 alone";
+    refused(&picture, 9, 3, &format!("refused 9: cell 3 is out of range: {why}"));
     // What a cell alone cannot know: QP -1 is for depths above 8.
     let mut picture = flat(small().settings, Cell::new(-1).unwrap());
     refused(&picture, 9, 0, "refused 9: cell 0 is out of range: QP byte 63");

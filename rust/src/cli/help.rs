@@ -11,8 +11,9 @@ const TAIL: &str = "\
 Options stand anywhere. A value may also stand behind its option's equals sign: --jobs=N.
 
 A file holds one picture: settings, planes, cells, slices and tile starts (rust/README.md has the
-layout). OUT is written whole or not at all, and never over an IN, a write-protected file or what is
-no regular file. Work of more than two seconds tells on standard error how far it is.
+layout). One without slices is filtered as one slice with tc offset div2 -1. OUT is written whole or
+not at all, and never over an IN, a write-protected file or what is no regular file. Work of more
+than two seconds tells on standard error how far it is.
 
 Exit status, the worst of all files: 0 accepted, and no difference; 1 refused, or a difference;
 2 a bad file or bad usage, not enough memory, or something that could not be written.

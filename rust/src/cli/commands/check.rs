@@ -9,6 +9,6 @@ pub fn run(words: &Words) -> Answer {
     Ok(each(words, |input, progress| {
         let stored = load(input, progress)?;
         filter(input, &stored, progress)?;
-        Ok((accepted(input), 0))
+        Ok((accepted(input, &stored), 0))
     }))
 }

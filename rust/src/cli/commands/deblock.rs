@@ -37,7 +37,7 @@ fn moved(stored: &StoredPicture, finished: &PlanesBuf) -> String {
 fn one(input: &Path, output: &Path, progress: &Progress) -> Outcome {
     let stored = load(input, progress)?;
     let finished = filter(input, &stored, progress)?;
-    let mut text = accepted(input) + &moved(&stored, &finished);
+    let mut text = accepted(input, &stored) + &moved(&stored, &finished);
     progress.doing(format!("writing {}", output.display()));
     let after = stored.with_planes(finished);
     output::write_whole(output, |sink| after.write(sink)).map_err(|error| unwritten(output, error))?;

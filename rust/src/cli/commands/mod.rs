@@ -42,8 +42,13 @@ fn filter(path: &Path, stored: &StoredPicture, progress: &Progress) -> Result<Pl
     }
 }
 
-fn accepted(path: &Path) -> String {
-    format!("{}: accepted\n", path.display())
+/// The verdict; and what an empty slice list stands for, since nothing in the file shows it.
+fn accepted(path: &Path, stored: &StoredPicture) -> String {
+    let stands_for = match stored.picture.slices.is_empty() {
+        true => "  no slice record: one slice with tc offset div2 -1\n",
+        false => "",
+    };
+    format!("{}: accepted\n{stands_for}", path.display())
 }
 
 fn unwritten(output: &Path, error: io::Error) -> Failure {

@@ -18,7 +18,7 @@ fn drawn(input: &Path, output: &Path, progress: &Progress) -> Outcome {
     output::write_whole(output, |sink| image::write_ppm(&stored.picture.picture(), &finished, sink))
         .map_err(|error| unwritten(output, error))?;
     let note = "before, after, and the moved samples (luma red, chroma blue, both magenta)";
-    Ok((format!("{}  picture: {}: {note}\n", accepted(input), output.display()), 0))
+    Ok((format!("{}  picture: {}: {note}\n", accepted(input, &stored), output.display()), 0))
 }
 
 pub fn run(words: &Words) -> Answer {

@@ -24,7 +24,7 @@ fn apart(input: &Path, progress: &Progress) -> Outcome {
     let stored = load(input, progress)?;
     let finished = filter(input, &stored, progress)?;
     let picture = stored.picture.picture();
-    let mut text = accepted(input);
+    let mut text = accepted(input, &stored);
     let mut sum = 0;
     let tiles = cut::tiles(&picture);
     for (number, tile) in tiles.iter().enumerate() {
