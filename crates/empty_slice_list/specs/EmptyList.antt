@@ -20,18 +20,17 @@ withSlices slices p = record {
   rows = p .rows;
 }
 
--- The empty list stands for `listed`: every picture whose slice list is empty has the answer and the output planes of
--- the same picture with `listed`. No picture is left out: one with a cell that names another slice than 0 is refused
--- either way, with the same number and place. `lent` are the output planes, holding anything.
-pub record StandsFor (listed : List ℕ) : Type 0 where
-  pub same-verdict : (p : Picture) (lent : Planes) → p .slices ≡ []
-      → verdict p lent ≡ verdict (withSlices listed p) lent
-  pub same-outputs : (p : Picture) (lent : Planes) → p .slices ≡ []
-      → outputs p lent ≡ outputs (withSlices listed p) lent
+-- The empty list stands for the list l: every picture whose slice list is empty has the answer and the output planes
+-- of the same picture with l. No picture is left out: one with a cell that names another slice than 0 is refused either
+-- way, with the same number and place. `lent` are the output planes, holding anything.
+pub record StandsFor (l : List ℕ) : Type 0 where
+  pub same-verdict : (p : Picture) (lent : Planes) → p .slices ≡ [] → verdict p lent ≡ verdict (withSlices l p) lent
+  pub same-outputs : (p : Picture) (lent : Planes) → p .slices ≡ [] → outputs p lent ≡ outputs (withSlices l p) lent
 
--- the sentence
+-- the list of that one record
 abbrev pub listed : List ℕ
 listed = 0 ∷ 6 ∷ 5 ∷ 1 ∷ []
 
+-- the sentence
 abbrev pub EmptyList : Type 0
 EmptyList = StandsFor listed

@@ -44,11 +44,8 @@ fn filter(path: &Path, stored: &StoredPicture, progress: &Progress) -> Result<Pl
 
 /// The verdict; and what an empty slice list stands for, since nothing in the file shows it.
 fn accepted(path: &Path, stored: &StoredPicture) -> String {
-    let stands_for = match stored.picture.slices.is_empty() {
-        true => "  no slice record: one slice with tc offset div2 -1\n",
-        false => "",
-    };
-    format!("{}: accepted\n{stands_for}", path.display())
+    let no_slice = "  no slice record: one slice with tc offset div2 -1\n";
+    format!("{}: accepted\n{}", path.display(), if stored.picture.slices.is_empty() { no_slice } else { "" })
 }
 
 fn unwritten(output: &Path, error: io::Error) -> Failure {
