@@ -1,7 +1,7 @@
 /* Calls tinladle_deblock as a C program does. Every buffer lies between guard words; guards and inputs must stay as
  * they were, and on a refusal the junk in the output planes too. The expected samples are document 01's figures: of
- * S1, a step from 100 to 104 at QP 37 and bS 2 becomes 100 101 101 102 103 103 104 104. The refusals are the small
- * inputs of its ledger, and a few more. */
+ * S1, a step from 100 to 104 at QP 37 and bS 2 becomes 100 101 101 102 103 103 104 104; without a slice K1 is worked
+ * out by hand. The refusals are the small inputs of its ledger, and a few more. */
 #include <stddef.h>
 #include <stdio.h>
 #include <stdlib.h>
@@ -300,8 +300,10 @@ static void refused_lists(void) {
     p = accepted();
     samples(&p, ROW)[0] = 1;
     refused(&p, "8: rows 1", 8, 1);
+}
 
-    p = accepted();
+static void refused_cells(void) {
+    struct Picture p = accepted();
     cell(&p, 2, 0)[0] = 63;
     refused(&p, "9: cell 2 has QP byte 63", 9, 2);
     p = accepted();
@@ -311,8 +313,10 @@ static void refused_lists(void) {
     resize(&p, SLICE, 0, 0);
     cell(&p, 1, 3)[4] = 1;
     refused(&p, "9: cell 25 has slice 1, no slice", 9, 25);
+}
 
-    p = accepted();
+static void refused_samples(void) {
+    struct Picture p = accepted();
     samples(&p, Y)[5] = 256;
     refused(&p, "10: Y sample 5 is 256", 10, 5);
     p = accepted();
@@ -333,6 +337,8 @@ int main(void) {
     refused_settings();
     refused_lengths();
     refused_lists();
+    refused_cells();
+    refused_samples();
     if (failures) return printf("%d differences\n", failures), 1;
     printf("ok\n");
     return 0;
