@@ -1,7 +1,8 @@
 #!/usr/bin/env python3
 """Pictures for the stage, as records, and the text that is expected of them.
 
-    picture_records.py random COUNT SEED              writes COUNT random records to standard output
+    picture_records.py random COUNT SEED              writes COUNT random records to standard output, and after each with an
+                                                      empty slice list the same with the record that the list stands for
     picture_records.py expect                         reads records, writes the expected text
     picture_records.py compare INPUT EXPECTED ACTUAL  tallies the lines; status 1 at a difference
 
@@ -339,9 +340,9 @@ def compare(input_path, expected_path, actual_path):
     data, expected, actual = (open(path, "rb").read() for path in (input_path, expected_path, actual_path))
     wanted, given = (text.decode(errors="replace").splitlines(keepends=True) for text in (expected, actual))
     assert len(wanted) == sum(1 for _ in unpack(data)), "there is no line for each picture"
-    print(f"{len(wanted)} pictures, {check_twins(data, given)} of them with an empty slice list; {tally(wanted)}")
+    print(f"{len(wanted)} pictures; {tally(wanted)}")
     if wanted == given:
-        print("no difference")
+        print(f"no difference; empty slice lists, each answered as the record: {check_twins(data, given)}")
         return 0
     number = next((i for i, pair in enumerate(zip(wanted, given)) if pair[0] != pair[1]),
                   min(len(wanted), len(given)))

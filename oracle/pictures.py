@@ -461,6 +461,7 @@ def several_faults():
         yield Case(f"every cause from {first} on", picture, first, FAULTS[first][2])
 
 
+# A picture of these that has no slice record passes 0, 6, 6, 1 outright (C-13); those that are to have none are `empty_lists`.
 GROUPS = [figures, tile_figures, band_figures, formats_and_depths, sizes, tiles, slices, suppressed, quantizers,
           parting, strengths, largest_samples, at_random, settings, lengths, slice_records, tile_starts, cells, samples,
           several_faults, tc_ends, qpc_ends, averages, far_ends, example]

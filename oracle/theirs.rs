@@ -102,12 +102,7 @@ fn slice_settings(record: &[u8]) -> decode::SliceDeblock {
     decode::SliceDeblock { disabled: record[0] != 0, beta_offset_div2: i32::from(record[1]) - 6, tc_offset_div2: i32::from(record[2]) - 6 }
 }
 
-pub fn context<'a>(
-    p: &Picture,
-    l: &'a Lists,
-    grid: Option<&'a tiles::TileGrid>,
-    exec: exec::ExecContext,
-) -> deblock::DeblockCtx<'a> {
+pub fn context<'a>(p: &Picture, l: &'a Lists, grid: Option<&'a tiles::TileGrid>, exec: exec::ExecContext) -> deblock::DeblockCtx<'a> {
     let (sub_w, sub_h) = p.plane_scales(1);
     let (cw, ch) = p.plane_size(1);
     let fallback = slice_settings(&DEFAULT_SLICE);

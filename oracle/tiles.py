@@ -14,8 +14,8 @@ import sys
 
 sys.dont_write_bytecode = True
 
-from ledger import SCALES, verdict
 from empty_list_pictures import far_apart, otherwise
+from ledger import SCALES, verdict
 from picture_case import Case, moves, outright, stays
 from picture_records import (HORIZONTAL, LOSSLESS, PCM, PLAIN_SLICE, VERTICAL, Picture, decided, fingerprint, oracle,
                              random_picture)
@@ -283,6 +283,7 @@ def empty_lists():
         yield Case(f"C-13: no slice record, format {format}, tiles [0, 1, 3] by [0, 2]", picture, check=otherwise(picture))
 
 
+# A picture of these that has no slice record passes 0, 6, 6, 1 outright (C-13); those that are to have none are `empty_lists`.
 GROUPS = [figures, grids, many, twins, refusals, highest, example]
 
 
