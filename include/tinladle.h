@@ -50,7 +50,7 @@ extern "C" {
  *   3     1 where the filter runs across its left and top borders, else 0
  *
  * An empty slice list stands for the one slice 0, 6, 5, 1: filtered, slice_beta_offset_div2 0, slice_tc_offset_div2 -1.
- * Then every cell is of slice 0, else it is refused. A slice with both offsets 0 is passed outright: 0, 6, 6, 1.
+ * Then every cell is of slice 0, else the picture is refused (9). Both offsets 0 are passed outright: 0, 6, 6, 1.
  *
  * WHICH EDGES ARE FILTERED. Nothing is refused for these rules: an edge that one of them leaves out is silently not
  * filtered, and the picture comes out different.

@@ -70,7 +70,7 @@ pub struct PictureBuf {
     pub planes: PlanesBuf,
     /// The cell records, 8 bytes each.
     pub cells: Vec<u8>,
-    /// The slice records, 4 bytes each.
+    /// The slice records, 4 bytes each; none stands for [`Slice::of_empty_list`](crate::Slice::of_empty_list).
     pub slices: Vec<u8>,
     /// The first CTB column of each tile column.
     pub tile_columns: Vec<u16>,

@@ -2,8 +2,7 @@
 
 use super::{OutOfRange, byte};
 
-/// One slice of a picture. A picture without any stands for one with [`Slice::of_empty_list`], which is not
-/// [`Slice::new`].
+/// One slice of a picture. An empty list stands for [`Slice::of_empty_list`], which is not [`Slice::new`].
 ///
 /// ```
 /// use tinladle::Slice;
@@ -18,6 +17,7 @@ pub struct Slice {
 }
 
 impl Default for Slice {
+    /// [`Slice::new`]. What an empty list stands for is [`Slice::of_empty_list`].
     fn default() -> Self {
         Self::new()
     }
@@ -79,7 +79,7 @@ pub struct Slices {
 }
 
 impl Slices {
-    /// No slice yet.
+    /// No slice yet. Left so, the list stands for [`Slice::of_empty_list`].
     pub fn new() -> Self {
         Self::default()
     }
