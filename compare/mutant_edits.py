@@ -101,7 +101,7 @@ GATE = [
          "with tc 0 the chroma filter leaves every sample as it is (theorem chroma-tc-zero)"),
     Edit("picture/slices", "beta: 6,", "beta: 5,"),
     Edit("picture/slices", "across: true,", "across: false,",
-         "the record of an empty list shows no filter across: all cells have slice number 0 (theorem across-unseen)"),
+         "filter across of the empty list's record cannot show: all cells have slice number 0 (theorem across-unseen)"),
     Edit("picture/cells", "256 * wide(cells[at + 5])", "wide(cells[at + 5])"),
 ]
 
