@@ -59,26 +59,20 @@ row slices = sample 4 ∷ sample 5 ∷ sample 6 ∷ sample 7 ∷ sample 8 ∷ sa
     sample : ℕ → ℕ
     sample x = getD (outputs (picture slices) lent .y) x 0
 
--- without a record tc is 4
-without : row [] ≡ 100 ∷ 100 ∷ 102 ∷ 104 ∷ 109 ∷ 111 ∷ 113 ∷ 113 ∷ []
+-- without a record tc is 4; with the record of before it is 5, as in S3
+rows :
+    (row [] ≡ 100 ∷ 100 ∷ 102 ∷ 104 ∷ 109 ∷ 111 ∷ 113 ∷ 113 ∷ [])
+    × (row (0 ∷ 6 ∷ 6 ∷ 1 ∷ []) ≡ 100 ∷ 100 ∷ 102 ∷ 105 ∷ 108 ∷ 111 ∷ 113 ∷ 113 ∷ [])
 unfolding verdict outputs finished _⊖_ _⊞_ _⊟_ neg _⊠_ lt _>>_ clip3 abs natOf passOf restored finishedPlane kernel
     window pass slicesOpen gate lumaFilter between segmentAt activity dSam decision clip1 near strongLine delta0
     sideDelta second weakBy weakLine lumaLine cellAt suppressed at table sliceAt sameTile averageQp betaIndex tcIndex
     scaled lumaBeta lumaTc BETA TC
-without = refl
-
--- with the record of before it is 5, as in S3
-before : row (0 ∷ 6 ∷ 6 ∷ 1 ∷ []) ≡ 100 ∷ 100 ∷ 102 ∷ 105 ∷ 108 ∷ 111 ∷ 113 ∷ 113 ∷ []
-unfolding verdict outputs finished _⊖_ _⊞_ _⊟_ neg _⊠_ lt _>>_ clip3 abs natOf passOf restored finishedPlane kernel
-    window pass slicesOpen gate lumaFilter between segmentAt activity dSam decision clip1 near strongLine delta0
-    sideDelta second weakBy weakLine lumaLine cellAt suppressed at table sliceAt sameTile averageQp betaIndex tcIndex
-    scaled lumaBeta lumaTc BETA TC
-before = refl
+rows = (refl, refl)
 
 -- so it does not stand for that one any more
 not-before : StandsFor (0 ∷ 6 ∷ 6 ∷ 1 ∷ []) → ⊥
 not-before h =
     let same = ap (λ (planes : Planes). getD (planes .y) 7 0) (h .same-outputs (picture []) lent refl) in
-    let four = ap (λ (l : List ℕ). getD l 3 0) without in
-    let five = ap (λ (l : List ℕ). getD l 3 0) before in
+    let four = ap (λ (l : List ℕ). getD l 3 0) (rows .0) in
+    let five = ap (λ (l : List ℕ). getD l 3 0) (rows .1) in
     absurd (omega (arith, sym four ∙ same ∙ five))
