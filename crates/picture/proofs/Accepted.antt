@@ -1,6 +1,6 @@
 -- A picture is accepted exactly where no cause of the refusal ledger applies.
 use Prim.Native.Nat.{ℕ, zero, suc, _+_, _-_, _*_, _≤_, _<_}
-use mathlib.Core.Path.{_≡_}
+use mathlib.Core.Path.{_≡_, ap}
 use mathlib.Core.Bool.{Bool, false}
 use mathlib.Core.List.{List, [], _∷_, _++_}
 use native.Mathlib.Omega.{arith}
@@ -36,7 +36,7 @@ use Rattle.picture.specs.Causes.{
   ledger,
   verdict,
 }
-use Rattle.picture.specs.Ledger.{acceptance, andThen, anyOf, firstOf}
+use Rattle.picture.specs.Ledger.{Verdict, acceptance, andThen, anyOf, firstOf}
 use Rattle.picture.specs.Picture.{Picture, Planes, Settings, ctbSize}
 use Rattle.picture.specs.Scale.{Component, Y, Cb, Cr}
 use Rattle.picture.specs.Slice.{sliceByte, sliceCount}
@@ -51,7 +51,6 @@ use Rattle.picture.proofs.Ledger.{
   none-out,
   none-part,
   not-eq,
-  number-accepts,
   once-in,
   once-out,
   then-in,
@@ -139,7 +138,7 @@ pub picture-by : (lent : List Bool) (p : Picture) → firstOf (ledger lent cellR
     → PictureOk p × NoneOf lent
 picture-by lent p e =
     let (g1, (g2, (g3, (g4, (g5, (g6, (g7, (g8, (g9, (g10, _)))))))))) =
-    good-out (ledger lent cellRules p) (omega arith) e in
+    good-out (ledger lent cellRules p) (omega arith) (ap (λ (v : Verdict). v .number) e) in
     let t : Settings = p .settings in
     let sizes = once-out (badSize (p .width) ++ badSize (p .height)) g1 in
     let (own, others) = none-part (badPlanes p (p .originals)) (lent ++ badLists p)
@@ -180,7 +179,9 @@ accepted-by p outputs e =
 pub accepted-number : (p : Picture) (outputs : Planes) → verdict p outputs .number ≡ 0
     → verdict p outputs ≡ acceptance
 unfolding verdict
-accepted-number p outputs e = number-accepts (ledger (badPlanes p outputs) cellRules p) (omega arith) e
+accepted-number p outputs e =
+    let ten = ledger (badPlanes p outputs) cellRules p in
+    good-in ten (good-out ten (omega arith) e)
 
 -- ---- and none applies to an accepted one
 

@@ -196,26 +196,15 @@ pub good-in : (l : List Entry) → AllGood l → firstOf l ≡ acceptance
 good-in [] h = refl
 good-in (e ∷ r) h = passed (e .cause) (e .number) r (h .0) ∙ good-in r (h .1)
 
-skipped : (t : Bool) (n p : ℕ) (rest : Verdict) → 0 < n → cond t (record { number = n; place = p }) rest ≡ acceptance
-    → (t ≡ false) × (rest ≡ acceptance)
-skipped true n p rest h e = absurd (omega (arith, ap (λ (v : Verdict). v .number) e))
+skipped : (t : Bool) (n p : ℕ) (rest : Verdict) → 0 < n → cond t (record { number = n; place = p }) rest .number ≡ 0
+    → (t ≡ false) × (rest .number ≡ 0)
+skipped true n p rest h e = absurd (omega arith)
 skipped false n p rest h e = (refl, e)
 
-pub good-out : (l : List Entry) → AllNumbered l → firstOf l ≡ acceptance → AllGood l
+-- the number alone tells it
+pub good-out : (l : List Entry) → AllNumbered l → firstOf l .number ≡ 0 → AllGood l
 good-out [] h e = tt
 good-out (d ∷ r) h e =
     let c = d .cause in
     let (end, rest) = skipped (ltb (placeOf c) (c .count)) (d .number) (placeOf c) (firstOf r) (h .0) e in
     (λ k hk. place-good c k (omega (arith, ltb-false (placeOf c) (c .count) end)), good-out r (h .1) rest)
-
-not-taken : (t : Bool) (n p : ℕ) (rest : Verdict) → 0 < n → cond t (record { number = n; place = p }) rest .number ≡ 0
-    → (rest .number ≡ 0 → rest ≡ acceptance)
-    → cond t (record { number = n; place = p }) rest ≡ acceptance
-not-taken true n p rest h e go = absurd (omega arith)
-not-taken false n p rest h e go = go e
-
--- the number alone tells acceptance
-pub number-accepts : (l : List Entry) → AllNumbered l → firstOf l .number ≡ 0 → firstOf l ≡ acceptance
-number-accepts [] h e = refl
-number-accepts (d ∷ r) h e =
-    not-taken (ltb (placeOf (d .cause)) (d .cause .count)) (d .number) _ (firstOf r) (h .0) e (number-accepts r (h .1))

@@ -52,8 +52,8 @@ others s = entry 6 (cause6 (lent s) (picture s)) ∷ listsPart cellRules (pictur
 -- where the settings are accepted the answer is left to those
 good : (c : tie.After-enum-told) → AllGood (settingsPart (bare (told c .args .settings)))
 good c =
-    good-out (settingsPart (bare (told c .args .settings))) (omega arith)
-    (sym (settings-tried c .check-settings .ensures) ∙ ap numbered (c .enum-told .given .1))
+    let answer = sym (settings-tried c .check-settings .ensures) ∙ ap numbered (c .enum-told .given .1) in
+    good-out (settingsPart (bare (told c .args .settings))) (omega arith) (ap (λ v. v .number) answer)
 
 rest : (c : tie.After-enum-told) →
     let s = told c in
