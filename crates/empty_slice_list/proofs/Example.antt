@@ -1,10 +1,11 @@
 -- The sentence at work: S3's samples of document 01 without a slice record. And the record that stood there before C-13
 -- is another: the empty list does not stand for 0, 6, 6, 1.
-use Prim.Native.Nat.{ℕ, zero, suc}
+use Prim.Native.Nat.{ℕ}
 use mathlib.Core.Path.{_≡_, refl, ap, sym, _∙_}
-use mathlib.Core.Bool.{false}
-use mathlib.Core.List.{List, [], _∷_, _++_}
+use mathlib.Core.Bool.{false, cond}
+use mathlib.Core.List.{List, [], _∷_}
 use native.Mathlib.Omega.{arith}
+use lib.Dec.{ltb}
 use lib.IntN.{pos}
 use lib.ListN.{getD, replicate}
 use Rattle.filter.specs.Finished.{passOf, restored, finishedPlane, finished, outputs}
@@ -24,11 +25,11 @@ use Rattle.thresholds.specs.Luma.{averageQp, betaIndex, tcIndex, scaled, lumaBe
 use Rattle.thresholds.specs.Tables.{BETA, TC}
 use Rattle.empty_slice_list.specs.EmptyList.{StandsFor}
 
-abbrev repeated : ℕ → List ℕ → List ℕ
-repeated zero l = []
-repeated (suc n) l = l ++ repeated n l
+-- a cell of QP 37 with both edges of bS 2
+abbrev filtered : List ℕ
+filtered = 101 ∷ 3 ∷ 2 ∷ 2 ∷ 0 ∷ 0 ∷ 0 ∷ 0 ∷ []
 
--- 16 by 8, luma alone, every cell of QP 37 with both edges of bS 2: 100 left of column 8 and 113 from there on
+-- 16 by 8, luma alone, eight such cells: 100 left of column 8 and 113 from there on
 abbrev picture : List ℕ → Picture
 picture slices = record {
   width = 16;
@@ -42,8 +43,8 @@ picture slices = record {
     cr-offset = pos 0;
     pcm-loop-filter-disabled = false;
   };
-  originals = record { y = repeated 8 (replicate 8 100 ++ replicate 8 113); cb = []; cr = [] };
-  cells = repeated 8 (101 ∷ 3 ∷ 2 ∷ 2 ∷ 0 ∷ 0 ∷ 0 ∷ 0 ∷ []);
+  originals = record { y = table 16 8 (λ x y. cond (ltb x 8) 100 113); cb = []; cr = [] };
+  cells = table 8 8 (λ byte n. getD filtered byte 0);
   slices = slices;
   columns = 0 ∷ [];
   rows = 0 ∷ [];
