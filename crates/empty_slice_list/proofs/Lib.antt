@@ -1,4 +1,3 @@
-pub mod Alike
 pub mod Stands
 pub mod EmptyList
 pub mod Example

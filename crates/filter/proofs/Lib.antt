@@ -1,3 +1,4 @@
+pub mod Alike
 pub mod AllBands
 pub mod AllPlaces
 pub mod Ends

@@ -1,0 +1,100 @@
+-- Two pictures that differ in their cell and slice lists alone have the same finished planes where their segments are
+-- filtered alike and the same samples are suppressed; and the same outputs where they are answered alike besides.
+use Prim.Native.Nat.{ℕ}
+use mathlib.Core.Path.{_≡_, refl, ap, sym, _∙_}
+use mathlib.Core.Bool.{Bool, true, false, cond}
+use mathlib.Core.List.{List}
+use mathlib.Core.Option.{Option}
+use borrow.Author.Tests.{eqb-true}
+use lib.Dec.{eqb}
+use Rattle.filter.specs.Finished.{passOf, restored, finishedPlane, finished, outputs}
+use Rattle.filter.specs.Kernel.{Filter, kernel}
+use Rattle.filter.specs.Pass.{pass}
+use Rattle.filter.specs.Segment.{Direction, vertical, horizontal, Position, segmentAt, segment}
+use Rattle.picture.specs.Causes.{verdict}
+use Rattle.picture.specs.Cell.{suppressed, cellOfSample}
+use Rattle.picture.specs.Ledger.{Verdict}
+use Rattle.picture.specs.Picture.{Picture, Planes, planeWidth, planeHeight, original}
+use Rattle.picture.specs.Plane.{Plane, table, transposed}
+use Rattle.picture.specs.Scale.{Component, Y, Cb, Cr, samplingAcross, samplingDown, toLuma}
+
+-- the same picture with other cell and slice lists
+abbrev pub withLists : List ℕ → List ℕ → Picture → Picture
+withLists cells slices p = record {
+  width = p .width;
+  height = p .height;
+  settings = p .settings;
+  originals = p .originals;
+  cells = cells;
+  slices = slices;
+  columns = p .columns;
+  rows = p .rows;
+}
+
+-- whether a component's sample is suppressed
+abbrev pub mark : Picture → Component → ℕ → ℕ → Bool
+mark p c x y =
+    suppressed (p .settings .pcm-loop-filter-disabled)
+    (cellOfSample p (toLuma (samplingAcross (p .settings .format) c) x)
+    (toLuma (samplingDown (p .settings .format) c) y))
+
+-- a component's finished samples, for segments that are filtered and samples that are suppressed in any way
+finishedBy : Picture → Component → (Direction → ℕ → ℕ → Option Filter) → (ℕ → ℕ → Bool) → Plane
+finishedBy p c by kept =
+    again
+    (transposed
+    (pass kernel (planeHeight p c) (by horizontal)
+    (transposed (again (pass kernel (planeWidth p c) (by vertical) (original p c))))))
+  where
+    again : Plane → Plane
+    again P x y = cond (kept x y) (original p c x y) (P x y)
+
+finished-by : (p : Picture) (c : Component) → finishedPlane p c ≡ finishedBy p c (segment p c) (mark p c)
+unfolding finishedBy finishedPlane passOf restored
+finished-by p c = refl
+
+module _ (p : Picture) (k l m n : List ℕ) where
+  -- nothing but these looks at the two lists
+  lists-unseen : (c : Component) (by : Direction → ℕ → ℕ → Option Filter) (kept : ℕ → ℕ → Bool)
+      → finishedBy (withLists k l p) c by kept ≡ finishedBy (withLists m n p) c by kept
+  unfolding finishedBy
+  lists-unseen c by kept = refl
+
+  abbrev pub Alike : Type 0
+  Alike = (c : Component) (d : Direction) (a b : Position)
+      → segmentAt (withLists k l p) c d a b ≡ segmentAt (withLists m n p) c d a b
+
+  abbrev pub SameMarks : Type 0
+  SameMarks = (c : Component) (x y : ℕ) → mark (withLists k l p) c x y ≡ mark (withLists m n p) c x y
+
+  module _ (alike : Alike) (marked : SameMarks) where
+    plane-alike : (c : Component) → finishedPlane (withLists k l p) c ≡ finishedPlane (withLists m n p) c
+    plane-alike c =
+        finished-by (withLists k l p) c
+        ∙ (λ i. finishedBy (withLists k l p) c (λ d e line. at d e line i) (λ x y. marked c x y i))
+        ∙ lists-unseen c (segment (withLists m n p) c) (mark (withLists m n p) c)
+        ∙ sym (finished-by (withLists m n p) c)
+      where
+        at : (d : Direction) (e line : ℕ) → segment (withLists k l p) c d e line ≡ segment (withLists m n p) c d e line
+        at d e line = alike c d _ _
+
+    list-alike : (c : Component)
+        → table (planeWidth p c) (planeHeight p c) (finishedPlane (withLists k l p) c)
+        ≡ table (planeWidth p c) (planeHeight p c) (finishedPlane (withLists m n p) c)
+    list-alike c = ap (table (planeWidth p c) (planeHeight p c)) (plane-alike c)
+
+    pub finished-alike : finished (withLists k l p) ≡ finished (withLists m n p)
+    unfolding finished
+    finished-alike = λ i. record { y = list-alike Y i; cb = list-alike Cb i; cr = list-alike Cr i }
+
+-- two choices are the same where they part only in what is chosen
+chosen : {A : Type 0} (t : Bool) (a b other : A) → (t ≡ true → a ≡ b) → cond t a other ≡ cond t b other
+chosen true a b other same = same refl
+chosen false a b other same = refl
+
+pub outputs-alike : (p q : Picture) (lent : Planes) → verdict p lent ≡ verdict q lent
+    → (verdict p lent .number ≡ 0 → finished p ≡ finished q) → outputs p lent ≡ outputs q lent
+unfolding outputs
+outputs-alike p q lent answered same =
+    chosen (eqb (verdict p lent .number) 0) (finished p) (finished q) lent (λ e. same (eqb-true _ _ e))
+    ∙ ap (λ (v : Verdict). cond (eqb (v .number) 0) (finished q) lent) answered
