@@ -1,7 +1,7 @@
 """The refusal ledger of document 01, in Python: which number and place a picture is answered with.
 
-Written from document 01 alone. It shares nothing with the stage, nor with the customer's Rust, which
-refuses nothing. `verdict` takes a Picture of picture_records.py: any fields at all.
+Written from document 01, and C-19 of document 02 for flag bit 4, alone. It shares nothing with the stage, nor with the
+customer's Rust, which refuses nothing. `verdict` takes a Picture of picture_records.py: any fields at all.
 """
 
 # Chroma format: by what the width and the height of the luma plane are divided. Format 0 has empty chroma planes.
@@ -55,7 +55,7 @@ def first_bad_start(starts, samples, log2_ctb):
 def cell_allowed(record, luma_depth, slice_count):
     qp, flags, bs_v, bs_h, low, high, zero_6, zero_7 = record
     return (-6 * (luma_depth - 8) <= qp - 64 <= 51
-            and flags < 16 and bs_v <= 2 and bs_h <= 2
+            and flags < 32 and bs_v <= 2 and bs_h <= 2
             and low + 256 * high < slice_count
             and zero_6 == 0 and zero_7 == 0)
 

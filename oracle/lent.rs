@@ -4,6 +4,8 @@ pub const VERTICAL: u8 = 1;
 pub const HORIZONTAL: u8 = 2;
 pub const LOSSLESS: u8 = 4;
 pub const PCM: u8 = 8;
+/// Document 02, C-19.
+pub const PALETTE: u8 = 16;
 
 pub const CELL_BYTES: usize = 8;
 pub const SLICE_BYTES: usize = 4;
@@ -74,7 +76,25 @@ impl Picture {
 
     pub fn suppressed(&self, number: usize) -> bool {
         let flags = self.cell(number)[1];
-        flags & LOSSLESS != 0 || (flags & PCM != 0 && self.pcm_switch)
+        flags & LOSSLESS != 0 || flags & PALETTE != 0 || (flags & PCM != 0 && self.pcm_switch)
+    }
+
+    /// The cells marked palette, in a list of any length.
+    pub fn palette_cells(&self) -> usize {
+        self.cells.iter().skip(1).step_by(CELL_BYTES).filter(|&flags| flags & PALETTE != 0).count()
+    }
+
+    /// The same picture with bit 4, palette, turned into bit 2, lossless, in every cell: it must be answered and filtered alike (document
+    /// 02, C-19). `None` where no cell has bit 4.
+    pub fn turned(&self) -> Option<Picture> {
+        if self.palette_cells() == 0 {
+            return None;
+        }
+        let mut turned = self.clone();
+        for flags in turned.cells.iter_mut().skip(1).step_by(CELL_BYTES).filter(|flags| **flags & PALETTE != 0) {
+            *flags = *flags & !PALETTE | LOSSLESS;
+        }
+        Some(turned)
     }
 
     /// The same picture with the record passed outright that its empty slice list stands for; `None` where it has records.

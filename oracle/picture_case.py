@@ -1,6 +1,6 @@
 """A stored picture with what is expected of it."""
 
-from picture_records import HORIZONTAL, PLAIN_SLICE, VERTICAL
+from picture_records import HORIZONTAL, PLAIN_SLICE, VERTICAL, random_picture
 
 
 class Case:
@@ -48,5 +48,18 @@ def edges(picture, bs=2):
     """Every cell has both edges, at one bS."""
     def change(record, x, y):
         record[1:4] = bytes([VERTICAL | HORIZONTAL, bs, bs])
+    picture.set_cells(change)
+    return picture
+
+
+def marked_picture(random, format, switch, *marks):
+    """Blocks at levels near each other, every edge of bS 2, and each cell marked with one of the marks."""
+    picture = random_picture(random, width=32, height=32 if format < 3 else 16, format=format, luma_depth=8,
+                             pcm_switch=switch, slices=[PLAIN_SLICE], columns=[0], rows=[0])
+    level = [random.below(12) for _ in range(16)]
+    picture.fill(0, lambda x, y: 100 + level[4 * (y // 8) + x // 8])
+
+    def change(record, x, y):
+        record[:4] = bytes([64 + 40, VERTICAL | HORIZONTAL | random.pick(*marks), 2, 2])
     picture.set_cells(change)
     return picture

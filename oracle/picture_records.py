@@ -1,8 +1,9 @@
 #!/usr/bin/env python3
 """Pictures for the stage, as records, and the text that is expected of them.
 
-    picture_records.py random COUNT SEED              writes COUNT random records to standard output, and after each with an
-                                                      empty slice list the same with the record that the list stands for
+    picture_records.py random COUNT SEED              writes COUNT random records to standard output, and after each its
+                                                      other forms: with the record that an empty slice list stands for,
+                                                      and with lossless cells for palette cells
     picture_records.py expect                         reads records, writes the expected text
     picture_records.py compare INPUT EXPECTED ACTUAL  tallies the lines; status 1 at a difference
 
@@ -25,6 +26,7 @@ HEAD = struct.Struct("<I6I2iI10I")
 JUNK = 0xABCD  # what the output planes hold before the stage
 
 VERTICAL, HORIZONTAL, LOSSLESS, PCM = 1, 2, 4, 8
+PALETTE = 16  # document 02, C-19
 
 DEFAULT_SLICE = (0, 6, 5, 1)  # what an empty slice list stands for: document 02, C-13
 PLAIN_SLICE = (0, 6, 6, 1)  # a slice with offsets 0
@@ -46,11 +48,30 @@ class Picture:
         self.slices = bytearray(byte for record in slices for byte in record)
         self.columns, self.rows = list(columns), list(rows)
 
+    def with_fields(self, **fields):
+        """The same picture with other fields."""
+        again = Picture.__new__(Picture)
+        again.__dict__.update(self.__dict__, **fields)
+        return again
+
     def with_slices(self, *records):
         """The same picture with other slice records."""
-        again = Picture.__new__(Picture)
-        again.__dict__.update(self.__dict__, slices=bytearray(byte for record in records for byte in record))
-        return again
+        return self.with_fields(slices=bytearray(byte for record in records for byte in record))
+
+    def suppressed(self, x, y):
+        """The cell at a cell column and cell row keeps its samples."""
+        flags = self.cells[8 * (y * (self.width // 4) + x) + 1]
+        return bool(flags & (LOSSLESS | PALETTE) or (flags & PCM and self.pcm_switch))
+
+    def has_palette(self):
+        return any(flags & PALETTE for flags in self.cells[1::8])
+
+    def turned(self):
+        """The same picture with flag bit 4, palette, turned into bit 2, lossless, in every cell: the stage must answer it alike
+        and filter it alike (document 02, C-19)."""
+        cells = bytearray(self.cells)
+        cells[1::8] = bytes(flags & ~PALETTE | LOSSLESS if flags & PALETTE else flags for flags in cells[1::8])
+        return self.with_fields(cells=cells)
 
     def plane_width(self, plane):
         return self.width if plane == 0 else self.width // SCALES[self.format][0]
@@ -137,8 +158,10 @@ def line(number, answer, planes):
 
 
 def oracle(pictures, name="picture"):
-    """The oracle's output planes for each accepted picture, and what it says: its counts of segments."""
-    output, says = run_oracle(name, b"".join(picture.pack() for picture in pictures))
+    """The oracle's output planes for each accepted picture, and what it says: its counts of segments. The Rust has no palette
+    input; it is given the turned picture."""
+    given = pictures if name == "second" else [picture.turned() for picture in pictures]
+    output, says = run_oracle(name, b"".join(picture.pack() for picture in given))
     samples = struct.unpack(f"<{len(output) // 2}H", output)
     planes, at = [], 0
     for picture in pictures:
@@ -152,8 +175,9 @@ def oracle(pictures, name="picture"):
 
 def decided(pictures):
     """The output planes of each accepted picture by the one who decides: the Rust, or where an open chroma segment in 4:2:0
-    has an index above 57 the second program (docs/DIFFERENCES.md, 1), which must give the Rust's planes everywhere else.
-    Besides, the Rust's counts, and whether each picture is left to the second program."""
+    has an index above 57 the second program (docs/DIFFERENCES.md, 1), which must give the Rust's planes everywhere else. On a
+    picture with palette cells the second program decides too (DIFFERENCES, 9), and must give what the Rust gives of the turned
+    one. Besides, the Rust's counts, and which pictures are left to the second program alone."""
     planes, counts = oracle(pictures)
     check_fallback(pictures, planes)
     second, says = oracle(pictures, "second")
@@ -161,7 +185,8 @@ def decided(pictures):
     left = [number in numbers for number in range(1, len(pictures) + 1)]
     for number, (own, other, parts) in enumerate(zip(planes, second, left), 1):
         assert parts or own == other, f"the second program and the Rust differ on accepted picture {number}"
-    return [other if parts else own for own, other, parts in zip(planes, second, left)], counts, left
+    return [own if not parts and not picture.has_palette() else other
+            for picture, own, other, parts in zip(pictures, planes, second, left)], counts, left
 
 
 def check_fallback(pictures, planes):
@@ -183,7 +208,8 @@ def expected(pictures):
             continue
         planes = next(filtered) if answer == (0, 0) else [[JUNK] * length for length in picture.out_lengths]
         found.append((answer, planes, line(number, answer, planes)))
-    return found, f"{counts}; left to the second program: {sum(left)}"
+    palette = sum(answer == (0, 0) and picture.has_palette() for picture, answer in zip(pictures, answers))
+    return found, f"{counts}; left to the second program: {sum(left)}; with palette cells: {palette}"
 
 
 def tally(lines):
@@ -313,27 +339,46 @@ def damage(random, picture):
             plane[random.below(len(plane))] = random.pick(255, 256, 1023, 1024, 32767, 32768, 65535)
 
 
+def mark_palette(random, picture):
+    """Palette marks on some cells or on many."""
+    percent = random.pick(5, 30)
+    picture.set_cells(lambda record, x, y: record.__setitem__(1, record[1] | (PALETTE if random.chance(percent) else 0)))
+
+
+def forms(picture):
+    """A picture and its other forms, each answered as the one before: with the record that an empty slice list stands for, and
+    with lossless cells for palette cells."""
+    yield picture
+    if not picture.slices:
+        picture = picture.with_slices(DEFAULT_SLICE)
+        yield picture
+    if picture.has_palette():
+        yield picture.turned()
+
+
 def random_input(count, seed):
-    """Records, three in ten of them damaged once to three times; some damage is none. A picture with an empty slice list
-    comes a second time, with the record that the list stands for."""
+    """Records, one in four with palette marks, some or many, three in ten damaged once to three times; some damage is none."""
     random = Random(seed)
     for _ in range(count):
         picture = random_picture(random, *random.pick((64, 48), (64, 48), (64, 48), (64, 48), (24, 24), (200, 136)))
+        if random.chance(25):
+            mark_palette(random, picture)
         if random.chance(30):
             for _ in range(random.pick(1, 1, 1, 2, 3)):
                 damage(random, picture)
-        yield picture.pack()
-        if not picture.slices:
-            yield picture.with_slices(DEFAULT_SLICE).pack()
+        yield from (form.pack() for form in forms(picture))
 
 
-def check_twins(data, given):
-    """The program answers each picture with an empty slice list as the next, which has the record; how many there are."""
-    empty = [number for number, (picture, _) in enumerate(unpack(data)) if picture and not picture.slices]
-    for number in empty:
+def check_forms(data, given):
+    """The program answers each form of a picture as the one before; how many have an empty slice list, and how many palette
+    cells beside slice records."""
+    pictures = [picture for picture, _ in unpack(data)]
+    empty = [number for number, picture in enumerate(pictures) if picture and not picture.slices]
+    palette = [number for number, picture in enumerate(pictures) if picture and picture.slices and picture.has_palette()]
+    for number in empty + palette:
         own, again = (text.split()[1:] for text in given[number:number + 2])
-        assert own == again, f"records {number + 1} and {number + 2}, without the slice record and with it, are answered otherwise"
-    return len(empty)
+        assert own == again, f"records {number + 1} and {number + 2}, two forms of one picture, are answered otherwise"
+    return len(empty), len(palette)
 
 
 def compare(input_path, expected_path, actual_path):
@@ -342,7 +387,9 @@ def compare(input_path, expected_path, actual_path):
     assert len(wanted) == sum(1 for _ in unpack(data)), "there is no line for each picture"
     print(f"{len(wanted)} pictures; {tally(wanted)}")
     if wanted == given:
-        print(f"no difference; empty slice lists, each answered as the record: {check_twins(data, given)}")
+        empty, palette = check_forms(data, given)
+        print(f"no difference; empty slice lists, each answered as the record: {empty}; pictures with palette cells, each answered"
+              f" as with lossless ones: {palette}")
         return 0
     number = next((i for i, pair in enumerate(zip(wanted, given)) if pair[0] != pair[1]),
                   min(len(wanted), len(given)))

@@ -14,10 +14,12 @@ import sys
 sys.dont_write_bytecode = True
 
 import empty_list_pictures
+import palette_pictures
 from chroma_pictures import averages, check_parting, far_ends, parting, qpc_ends, tc_ends
 from ledger import SCALES
-from picture_case import Case, edges, moves, outright, same_as, stays
-from picture_records import HORIZONTAL, LOSSLESS, PCM, PLAIN_SLICE, VERTICAL, Picture, expected, random_picture, tally, unpack
+from picture_case import Case, edges, marked_picture, moves, outright, same_as, stays
+from picture_records import (HORIZONTAL, LOSSLESS, PALETTE, PCM, PLAIN_SLICE, VERTICAL, Picture, expected, random_picture,
+                             tally, unpack)
 from records import Random
 from stored import ROOT, is_checking, store
 
@@ -90,8 +92,7 @@ def band_figures():
                                            slices=[PLAIN_SLICE], columns=[0], rows=[0]))
             picture.set_cells(lambda record, x, y: record.__setitem__(0, 64 + 40))
             for log2_ctb in (4, 6):
-                again = Picture.__new__(Picture)
-                again.__dict__.update(picture.__dict__, log2_ctb=log2_ctb)
+                again = picture.with_fields(log2_ctb=log2_ctb)
                 yield Case(f"{name}; format {format}, run at log2 CTB {log2_ctb}", again)
 
 
@@ -170,9 +171,7 @@ def restored(picture):
             width = picture.plane_width(plane)
             for number, (before, after) in enumerate(zip(picture.planes[plane], planes[plane])):
                 x, y = number % width * across, number // width * down
-                flags = picture.cells[8 * (y // 4 * (picture.width // 4) + x // 4) + 1]
-                if flags & LOSSLESS or (flags & PCM and picture.pcm_switch):
-                    assert before == after
+                assert before == after or not picture.suppressed(x // 4, y // 4)
         assert planes != picture.planes
     return check
 
@@ -181,14 +180,7 @@ def suppressed():
     random = Random(7)
     for format in range(4):
         for switch in (0, 1):
-            picture = random_picture(random, width=32, height=32 if format < 3 else 16, format=format, luma_depth=8,
-                                     pcm_switch=switch, slices=[(0, 6, 6, 1)], columns=[0], rows=[0])
-            level = [random.below(12) for _ in range(16)]
-            picture.fill(0, lambda x, y: 100 + level[4 * (y // 8) + x // 8])
-
-            def change(record, x, y):
-                record[:4] = bytes([64 + 40, VERTICAL | HORIZONTAL | random.pick(0, 0, LOSSLESS, PCM, PCM), 2, 2])
-            picture.set_cells(change)
+            picture = marked_picture(random, format, switch, 0, 0, LOSSLESS, PCM, PCM)
             yield Case(f"lossless and PCM cells, switch {switch}, format {format}", picture, check=restored(picture))
     for name, flag, switch, check in [("lossless", LOSSLESS, 0, stays), ("PCM, switch on", PCM, 1, stays),
                                       ("PCM, switch off", PCM, 0, moves), ("both marks, switch off", 12, 0, stays)]:
@@ -392,8 +384,9 @@ def cells():
         for byte, values in [(0, (0, 116, 255)), (1, (16, 32, 64, 128)), (2, (3, 255)), (3, (3, 255)), (4, (1,)),
                              (5, (1,)), (6, (1,)), (7, (255,))]:
             for value in values if cell == 3 else values[:1]:
-                yield bad(f"cell {cell}: byte {byte} is {value}", cell, byte, value)
-    yield bad("cell 3: all flags", 3, 1, 15, small(), 0)
+                allowed = (byte, value) == (1, PALETTE)
+                yield bad(f"cell {cell}: byte {byte} is {value}", cell, byte, value, number=0 if allowed else 9)
+    yield bad("cell 3: all flags of document 01", 3, 1, 15, small(), 0)
     for name, count in [("the record 0, 6, 6, 1", 1), *((f"{n} slice records", n) for n in (1, 3, 256, 257, 600))]:
         for slice_number, number in [(count - 1, 0), (count, 9)]:
             picture = Picture(8, 8, slices=[PLAIN_SLICE] * count)
@@ -467,6 +460,13 @@ GROUPS = [figures, tile_figures, band_figures, formats_and_depths, sizes, tiles,
           several_faults, tc_ends, qpc_ends, averages, far_ends, example]
 
 
+def palette_cells():
+    yield from palette_pictures.with_turned(palette_pictures.marked(restored))
+    yield from palette_pictures.with_turned(palette_pictures.steps())
+    yield from palette_pictures.with_turned(palette_pictures.flags(colour))
+    yield from palette_pictures.with_turned(palette_pictures.refusals(FAULTS, colour))
+
+
 def empty_lists():
     yield from empty_list_pictures.thresholds()
     yield from empty_list_pictures.twins()
@@ -482,12 +482,13 @@ def check_bands(cases, found):
 
 def main():
     checking = is_checking(__doc__)
-    cases = [outright(case) for group in GROUPS for case in group()] + list(empty_lists())
+    cases = [outright(case) for group in GROUPS for case in group()] + [*empty_lists(), *palette_cells()]
     found, counts = expected([case.picture for case in cases] + [None])
     for case, (answer, planes, _) in zip(cases, found):
         assert answer == case.answer, (case.name, case.answer, answer)
         case.look_at(planes)
     check_bands(cases, found)
+    turned = palette_pictures.check_turned(cases, found)
     check_parting([(case, planes) for case, (answer, planes, _) in zip(cases, found) if answer == (0, 0)])
     short = cases[0].picture.pack()[:-1]
     lines = [text for _, _, text in found]
@@ -498,7 +499,7 @@ def main():
                                             for number, (answer, name) in enumerate(names, 1)).encode()}
     store(files, checking)
     size = len(files["crates/picture_cases/stdin"])
-    print(f"{len(lines)} records of {size} bytes in all; {tally(lines)}; {counts}")
+    print(f"{len(lines)} records of {size} bytes in all; {tally(lines)}; {counts}; turned: {turned}")
 
 
 if __name__ == "__main__":

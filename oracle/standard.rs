@@ -1,5 +1,6 @@
 //! The second program: the deblocking of ITU-T H.265, clause 8.7.2, on an accepted picture, step by step in the clause's order and with
-//! its names. It decides where the customer's Rust does not follow the clause (docs/DIFFERENCES.md, 1).
+//! its names. It decides where the customer's Rust does not follow the clause (docs/DIFFERENCES.md, 1), and on pictures with palette cells,
+//! which the Rust has not (9).
 
 use crate::gate::{Direction, Open, Segment, gate, segments};
 use crate::picture::Picture;
@@ -69,7 +70,8 @@ impl Plane<'_> {
     }
 }
 
-/// Whether P and Q of line k are left alone: nDp, nDq become 0 (8.7.2.5.7), by the cell of p0 and of q0.
+/// Whether P and Q of line k are left alone: nDp, nDq become 0 (8.7.2.5.7), by the cell of p0 and of q0: PCM with the switch on, lossless
+/// or palette mode (document 02, C-19).
 fn suppressed(p: &Picture, s: &Segment, k: usize) -> (bool, bool) {
     let (across, down) = p.plane_scales(s.plane);
     let at = |column: usize, row: usize| p.suppressed(row * down / 4 * p.cells_across() + column * across / 4);

@@ -80,6 +80,7 @@ pub struct Lists {
 
 impl Lists {
     pub fn of(p: &Picture) -> Self {
+        assert_eq!(p.palette_cells(), 0, "the customer's Rust has no palette input");
         let cells = || p.cells.chunks(CELL_BYTES);
         let flag = |bit: u8| cells().map(|c| c[1] & bit != 0).collect();
         let slices = || p.slices.chunks(SLICE_BYTES);

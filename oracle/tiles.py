@@ -16,8 +16,9 @@ sys.dont_write_bytecode = True
 
 from empty_list_pictures import far_apart, otherwise
 from ledger import SCALES, verdict
+from palette_pictures import check_turned
 from picture_case import Case, moves, outright, stays
-from picture_records import (HORIZONTAL, LOSSLESS, PCM, PLAIN_SLICE, VERTICAL, Picture, decided, fingerprint, oracle,
+from picture_records import (HORIZONTAL, LOSSLESS, PALETTE, PCM, PLAIN_SLICE, VERTICAL, Picture, decided, fingerprint, oracle,
                              random_picture)
 from pictures import FAR, FAULTS, colour, example, restored, step_at, t1
 from records import Random
@@ -58,8 +59,7 @@ def cut(picture, i, j):
     """The tile as a picture alone."""
     left, right = bounds(picture.columns, i, picture.log2_ctb, picture.width)
     top, bottom = bounds(picture.rows, j, picture.log2_ctb, picture.height)
-    alone = Picture.__new__(Picture)
-    alone.__dict__.update(picture.__dict__, width=right - left, height=bottom - top, columns=[0], rows=[0])
+    alone = picture.with_fields(width=right - left, height=bottom - top, columns=[0], rows=[0])
     alone.planes = tile_planes(picture, picture.planes, i, j)
     alone.out_lengths = tuple(map(len, alone.planes))
     alone.cells = bytearray(crop(picture.cells, 2 * picture.width, 2 * left, 2 * right, top // 4, bottom // 4))
@@ -105,19 +105,14 @@ def on_border(starts, size, cell):
     return any(start and 4 * cell in (start * size, start * size - 4) for start in starts)
 
 
-def mark_borders(random, picture):
+def mark_borders(random, picture, marks=(0, 0, LOSSLESS, PCM)):
     """Suppressed cells along the borders of tiles: on one side, on the other, on both and on none."""
     size = 2 ** picture.log2_ctb
 
     def change(record, x, y):
         if on_border(picture.columns, size, x) or on_border(picture.rows, size, y):
-            record[1] = record[1] & 3 | random.pick(0, 0, LOSSLESS, PCM)
+            record[1] = record[1] & 3 | random.pick(*marks)
     picture.set_cells(change)
-
-
-def is_suppressed(picture, x, y):
-    flags = picture.cells[8 * (y * (picture.width // 4) + x) + 1]
-    return bool(flags & LOSSLESS or (flags & PCM and picture.pcm_switch))
 
 
 def border_pairs(picture):
@@ -126,10 +121,10 @@ def border_pairs(picture):
     pairs = set()
     for start in picture.columns[1:]:
         x = start * size // 4
-        pairs |= {(is_suppressed(picture, x - 1, y), is_suppressed(picture, x, y)) for y in range(picture.height // 4)}
+        pairs |= {(picture.suppressed(x - 1, y), picture.suppressed(x, y)) for y in range(picture.height // 4)}
     for start in picture.rows[1:]:
         y = start * size // 4
-        pairs |= {(is_suppressed(picture, x, y - 1), is_suppressed(picture, x, y)) for x in range(picture.width // 4)}
+        pairs |= {(picture.suppressed(x, y - 1), picture.suppressed(x, y)) for x in range(picture.width // 4)}
     return pairs
 
 
@@ -283,6 +278,20 @@ def empty_lists():
         yield Case(f"C-13: no slice record, format {format}, tiles [0, 1, 3] by [0, 2]", picture, check=otherwise(picture))
 
 
+def palette_cells():
+    """Palette cells along the borders: each cut carries its cells' marks (document 02, C-19). The PCM switch is off, so that
+    nothing else suppresses them."""
+    random = Random(37)
+    for format in range(4):
+        picture = busy(random, random_picture(random, width=56, height=40, format=format, luma_depth=10, chroma_depth=8,
+                                              log2_ctb=4, cb_offset=0, cr_offset=0, columns=[0, 1, 3], rows=[0, 2],
+                                              pcm_switch=0, slices=[PLAIN_SLICE]))
+        mark_borders(random, picture, (0, 0, PALETTE, PALETTE | PCM))
+        name = f"C-19: palette cells, format {format}, tiles [0, 1, 3] by [0, 2]"
+        yield Marked(name, picture)
+        yield Marked(f"{name}; turned", picture.turned())
+
+
 # A picture of these that has no slice record passes 0, 6, 6, 1 outright (C-13); those that are to have none are `empty_lists`.
 GROUPS = [figures, grids, many, twins, refusals, highest, example]
 
@@ -308,9 +317,7 @@ def check_cuts(accepted):
 
 def opened(picture):
     """The picture as one tile: no border is closed."""
-    again = Picture.__new__(Picture)
-    again.__dict__.update(picture.__dict__, columns=[0], rows=[0])
-    return again
+    return picture.with_fields(columns=[0], rows=[0])
 
 
 def check_borders(accepted):
@@ -339,7 +346,7 @@ def check_twins(accepted):
 
 def main():
     checking = is_checking(__doc__)
-    cases = [outright(case) for group in GROUPS for case in group()] + list(empty_lists())
+    cases = [outright(case) for group in GROUPS for case in group()] + [*empty_lists(), *palette_cells()]
     for case in cases:
         assert verdict(case.picture) == case.answer, (case.name, case.answer, verdict(case.picture))
     filtered, counts, left = decided([case.picture for case in cases if case.answer == (0, 0)])
@@ -351,6 +358,7 @@ def main():
     check_neighbour(accepted)
     check_twins(accepted)
     check_parting(accepted, left)
+    check_turned([case for case, _ in accepted], [(case.answer, planes) for case, planes in accepted])
     planes_of = {id(case): planes for case, planes in accepted}
     text = [line for number, case in enumerate(cases, 1)
             for line in lines(number, case.picture, case.answer, planes_of.get(id(case)))]

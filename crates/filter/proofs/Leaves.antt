@@ -15,7 +15,7 @@ use Rattle.filter.specs.Kernel.{luma, chroma}
 use Rattle.filter.specs.Segment.{slicesOpen, lumaFilter, chromaFilter}
 use Rattle.picture.specs.declared.Cell.{Cell}
 use Rattle.picture.specs.declared.Slice.{Slice}
-use Rattle.picture.specs.Cell.{suppressed, qpOf}
+use Rattle.picture.specs.Cell.{qpOf}
 use Rattle.picture.specs.Slice.{sliceAt}
 use Rattle.thresholds.specs.Chroma.{chromaTc}
 use Rattle.thresholds.specs.Luma.{averageQp, lumaBeta, lumaTc}
@@ -62,22 +62,6 @@ module _ (slices : List ℕ) (p q : Cell) (s : Slice) (is : s ≡ sliceAt slices
 
   pub gate-apart : s .across ≡ false → (p .slice ≡ q .slice → ⊥) → Closed ≡ sliceGate slices p q
   gate-apart a n = simp (a, ne-eqb _ _ n) at gate-is
-
--- ---- suppression, by the flags
-
-pub suppressed-lossless : (pcm : Bool) (c : Cell) → c .flags / 4 % 2 ≡ 1 → true ≡ suppressed pcm c
-unfolding suppressed
-suppressed-lossless pcm c e = simp (eq-eqb _ _ e)
-
-pub suppressed-pcm : (pcm : Bool) (c : Cell) → (c .flags / 4 % 2 ≡ 1 → ⊥) → c .flags / 8 % 2 ≡ 1
-    → pcm ≡ suppressed pcm c
-unfolding suppressed
-suppressed-pcm pcm c n e = simp (ne-eqb _ _ n, eq-eqb _ _ e)
-
-pub suppressed-not : (pcm : Bool) (c : Cell) → (c .flags / 4 % 2 ≡ 1 → ⊥) → (c .flags / 8 % 2 ≡ 1 → ⊥)
-    → false ≡ suppressed pcm c
-unfolding suppressed
-suppressed-not pcm c n m = simp (ne-eqb _ _ n, ne-eqb _ _ m)
 
 -- ---- thresholds, by the average QP
 

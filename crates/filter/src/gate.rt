@@ -27,16 +27,10 @@ pub fn slice_gate(slices: &[u8], p: Cell, q: Cell) -> SliceGate
     SliceGate::Closed
 }
 
-// sample_suppressed of the Rust: a lossless cell, or a PCM one with the switch on, keeps its original samples. Its
-// edges stay open.
+// sample_suppressed of the Rust: a lossless cell, a PCM one with the switch on, or a palette one keeps its original
+// samples, in luma and in chroma. Its edges stay open.
 pub fn is_suppressed(pcm: bool, c: Cell) -> bool
     ensures { λ r. ⌜ r ≡ suppressed pcm c ⌝ }
 {
-    if c.flags / 4 % 2 == 1 {
-        return true;
-    }
-    if c.flags / 8 % 2 == 1 {
-        return pcm;
-    }
-    false
+    (c.flags / 4 % 2 == 1) | ((c.flags / 8 % 2 == 1) & pcm) | (c.flags / 16 % 2 == 1)
 }

@@ -12,7 +12,7 @@ abbrev pub badRanges : ℕ → ℕ → Cell → List Bool
 badRanges least count cell =
     ltb (cell .qp) least
     ∷ ltb 115 (cell .qp)
-    ∷ ltb 15 (cell .flags)
+    ∷ ltb 31 (cell .flags)
     ∷ ltb 2 (cell .bsv)
     ∷ ltb 2 (cell .bsh)
     ∷ leb count (cell .slice)

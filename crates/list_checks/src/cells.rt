@@ -18,7 +18,7 @@ fn bad_ranges(cell: Cell, least: u8, count: usize) -> bool
 {
     (cell.qp < least)
         | (115 < cell.qp)
-        | (15 < cell.flags)
+        | (31 < cell.flags)
         | (2 < cell.bsv)
         | (2 < cell.bsh)
         | (count <= cell.slice as usize)

@@ -129,6 +129,9 @@ cases =
     ∷ case (sliced (slices 2 ++ (0 ∷ 13 ∷ 6 ∷ 1 ∷ [])) base) lent 7 2
     ∷ case (tiled (0 ∷ 2 ∷ 2 ∷ []) one (wide 8)) (grey (replicate 512 7)) 8 2
     ∷ case (celled (set (cells 4) (8 * 2) 63) base) lent 9 2
+    -- all flags of document 01 and C-19's, and the first that is none
+    ∷ case (celled (set (cells 4) (8 * 2 + 1) 31) base) lent 0 0
+    ∷ case (celled (set (cells 4) (8 * 2 + 1) 32) base) lent 9 2
     ∷ case (showing (grey (set flat 5 256)) base) lent 10 5
     -- of two faults the lower number is answered
     ∷ case (sized 12 (under (settings 4 8 4 (pos 0)) base)) lent 1 0

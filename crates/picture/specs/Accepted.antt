@@ -64,7 +64,7 @@ pub record StartsOk (starts : List ℕ) (many size total : ℕ) : Type 0 where
 pub record CellOk (depth : ℕ) (slices : List ℕ) (byte : ℕ → ℕ) : Type 0 where
   pub qp-low : neg (pos (6 * (depth - 8))) ≤ℤ (byte 0 ⊖ 64)
   pub qp-high : (byte 0 ⊖ 64) ≤ℤ pos 51
-  pub flags : byte 1 ≤ 15
+  pub flags : byte 1 ≤ 31
   pub bsv : byte 2 ≤ 2
   pub bsh : byte 3 ≤ 2
   pub slice : byte 4 + 256 * byte 5 < sliceCount slices

@@ -101,14 +101,15 @@ cause8 p =
     (startsCause (p .rows) (ctbSize (p .settings)) (p .height))
 
 -- 9. "a cell out of range, or its slice number not in the list (only 0 where the list is empty)", place: "first such
--- cell". "QP runs from −6·(luma depth − 8) to 51, bS from 0 to 2"; flag bits 4 to 7 and the last two bytes are 0.
+-- cell". "QP runs from −6·(luma depth − 8) to 51, bS from 0 to 2"; flag bits 5 to 7 and the last two bytes are 0.
+-- Document 02, C-19: "bit 4 leaves number 9; bits 5 to 7 stay there."
 abbrev pub badQp : ℕ → ℤ → List Bool
 badQp depth qp = lt qp (neg (pos (6 * (depth - 8)))) ∷ lt (pos 51) qp ∷ []
 
 abbrev pub badCell : ℕ → List ℕ → (ℕ → ℕ) → List Bool
 badCell depth slices byte =
     badQp depth (byte 0 ⊖ 64)
-    ++ (ltb 15 (byte 1)
+    ++ (ltb 31 (byte 1)
     ∷ ltb 2 (byte 2)
     ∷ ltb 2 (byte 3)
     ∷ leb (sliceCount slices) (byte 4 + 256 * byte 5)
