@@ -1,0 +1,5 @@
+pub mod Bits
+pub mod Example
+pub mod Palette
+pub mod Turned
+pub mod Verdict
