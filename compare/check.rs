@@ -20,7 +20,7 @@ pub struct Agreed {
     pub tiles: u64,
     /// Whether the customer's Rust was also run with the absent grid.
     pub absent_grid: bool,
-    /// Whether the customer's Rust does not decide here, but the second program alone; and whether the Rust leaves other planes.
+    /// Whether the customer's Rust is not asked here, but the second program alone; and whether the Rust leaves other planes.
     pub left_out: bool,
     pub parted: bool,
 }
@@ -74,23 +74,22 @@ fn answered(p: &Picture, random: &mut Random) -> Result<[Vec<u16>; 3], String> {
     Ok(answer.planes)
 }
 
-/// An empty slice list stands for one record: the stage answers alike with the record passed outright, and leaves the same planes; on a
-/// refusal `ours` has seen that it wrote none.
-fn check_empty_list(p: &Picture, planes: &[Vec<u16>; 3], random: &mut Random) -> Result<(), String> {
-    let Some(with_record) = p.outright() else { return Ok(()) };
+/// The stage answers alike on another form of the picture, and leaves the same planes; on a refusal `ours` has seen that it wrote none.
+fn check_form(p: &Picture, planes: &[Vec<u16>; 3], form: Option<Picture>, whose: &str, random: &mut Random) -> Result<(), String> {
+    let Some(form) = form else { return Ok(()) };
     let (number, place) = ledger::verdict(p);
-    let answer = ours::run(&with_record, random)?;
+    let answer = ours::run(&form, random)?;
     if (answer.number, answer.place) != (number, place) {
-        return Err(format!("stage {number}, place {place}; with the slice record {}, place {}", answer.number, answer.place));
+        return Err(format!("stage {number}, place {place}; {whose} {}, place {}", answer.number, answer.place));
     }
-    if number == 0 { same_planes(p, planes, &answer.planes, "the explicit slice record") } else { Ok(()) }
+    if number == 0 { same_planes(p, planes, &answer.planes, whose) } else { Ok(()) }
 }
 
-/// The customer's Rust, where it decides.
-fn check_rust(p: &Picture, planes: &[Vec<u16>; 3], theirs: &[Vec<u16>; 3], rust: &mut Rust) -> Result<bool, String> {
-    same_planes(p, planes, theirs, "Rust")?;
+/// The customer's Rust, on the picture or on the turned one.
+fn check_rust(p: &Picture, planes: &[Vec<u16>; 3], theirs: &[Vec<u16>; 3], rust: &mut Rust, whose: &str) -> Result<bool, String> {
+    same_planes(p, planes, theirs, whose)?;
     if p.one_tile() {
-        same_planes(p, planes, &rust.run(p, Grid::Absent)?.0, "Rust without tiles")?;
+        same_planes(p, planes, &rust.run(p, Grid::Absent)?.0, &format!("{whose} without tiles"))?;
     }
     Ok(p.one_tile())
 }
@@ -98,13 +97,24 @@ fn check_rust(p: &Picture, planes: &[Vec<u16>; 3], theirs: &[Vec<u16>; 3], rust:
 fn check_accepted(p: &Picture, planes: &[Vec<u16>; 3], rust: &mut Rust, random: &mut Random) -> Result<Agreed, String> {
     // Term 3 first: it needs no witness but the stage, and what it finds must not hide behind the Rust.
     let tiles = cut::check_tiles(p, planes, random)?;
-    let (theirs, calls) = rust.run(p, Grid::Given)?;
+    // The Rust has no palette input: of a picture with palette cells it is given the turned one. There the second program decides, else the
+    // Rust; who decides comes first.
+    let turned = p.turned();
+    let known = turned.as_ref().unwrap_or(p);
+    let second = || same_planes(p, planes, &standard::deblocked(p), "second program");
+    if turned.is_some() {
+        second()?;
+    }
+    let (theirs, calls) = rust.run(known, Grid::Given)?;
     let coverage = Coverage::of(p);
     let left_out = gate::parts(p);
     assert_eq!(left_out, coverage.chroma.above_57 != [0; 6], "the tally counts other segments than those that part");
-    let absent_grid = !left_out && check_rust(p, planes, &theirs, rust)?;
-    same_planes(p, planes, &standard::deblocked(p), "second program")?;
-    check_fallback(p, &theirs, rust)?;
+    let whose = if turned.is_some() { "Rust with lossless for palette" } else { "Rust" };
+    let absent_grid = !left_out && check_rust(known, planes, &theirs, rust, whose)?;
+    if turned.is_none() {
+        second()?;
+    }
+    check_fallback(known, &theirs, rust)?;
     same_counts(&coverage, &calls)?;
     let moved = [0, 1, 2].map(|k| planes[k].iter().zip(&p.planes[k]).filter(|(a, b)| a != b).count() as u64);
     Ok(Agreed { coverage, calls, moved, tiles, absent_grid, left_out, parted: *planes != theirs })
@@ -115,6 +125,7 @@ pub fn check(p: &Picture, rust: &mut Rust, random: &mut Random) -> Result<Option
     let planes = answered(p, random)?;
     let accepted = ledger::verdict(p) == (0, 0);
     let agreed = if accepted { Some(check_accepted(p, &planes, rust, random)?) } else { None };
-    check_empty_list(p, &planes, random)?;
+    check_form(p, &planes, p.outright(), "the explicit slice record", random)?;
+    check_form(p, &planes, p.turned(), "lossless for palette", random)?;
     Ok(agreed)
 }

@@ -5,7 +5,7 @@
 
 use crate::decode;
 use crate::gate::{Closed, Direction, Open, gate, segments};
-use crate::picture::Picture;
+use crate::picture::{LOSSLESS, PALETTE, PCM, Picture};
 
 /// Segments of luma, or of chroma, where each stands for Cb and for Cr.
 #[derive(Clone, Copy, Default)]
@@ -76,6 +76,9 @@ fn segments_of(p: &Picture, plane: usize) -> Segments {
 #[derive(Clone, Copy, Default)]
 pub struct Suppressed {
     pub cells: u64,
+    /// Palette cells; and those that nothing else suppresses.
+    pub palette: u64,
+    pub palette_alone: u64,
     pub before_border: u64,
     pub after_border: u64,
     pub on_both_sides: u64,
@@ -94,7 +97,13 @@ fn suppressed(p: &Picture) -> Suppressed {
     let down = p.height as usize / 4;
     let at = |x: usize, y: usize| p.suppressed(y * across + x);
     let mut found = Suppressed::default();
+    let alone = |number: &usize| {
+        let flags = p.cell(*number)[1];
+        flags & PALETTE != 0 && flags & LOSSLESS == 0 && (flags & PCM == 0 || !p.pcm_switch)
+    };
     found.cells = (0..across * down).filter(|&number| p.suppressed(number)).count() as u64;
+    found.palette = p.palette_cells() as u64;
+    found.palette_alone = (0..across * down).filter(alone).count() as u64;
     for x in p.columns[1..].iter().map(|&start| usize::from(start) << shift) {
         (0..down).for_each(|y| found.pair(at(x - 1, y), at(x, y)));
     }
@@ -121,6 +130,8 @@ impl Coverage {
         self.luma.add(&more.luma);
         self.chroma.add(&more.chroma);
         self.suppressed.cells += more.suppressed.cells;
+        self.suppressed.palette += more.suppressed.palette;
+        self.suppressed.palette_alone += more.suppressed.palette_alone;
         self.suppressed.before_border += more.suppressed.before_border;
         self.suppressed.after_border += more.suppressed.after_border;
         self.suppressed.on_both_sides += more.suppressed.on_both_sides;

@@ -1,7 +1,7 @@
 //! Accepted pictures, at random.
 
 use crate::content;
-use crate::picture::{CELL_BYTES, HORIZONTAL, LOSSLESS, PCM, Picture, VERTICAL};
+use crate::picture::{CELL_BYTES, HORIZONTAL, LOSSLESS, PALETTE, PCM, Picture, VERTICAL};
 use crate::random::Random;
 
 /// How large the pictures are.
@@ -147,7 +147,7 @@ fn cells(random: &mut Random, p: &Picture) -> Vec<u8> {
     cells
 }
 
-/// Lossless and PCM marks: none, a few anywhere, many, or many beside the tiles' borders.
+/// Lossless and PCM marks: none, a few anywhere, many, or many beside the tiles' borders; in half of these pictures palette marks too.
 fn mark_suppressed(random: &mut Random, p: &mut Picture) {
     let style = random.below(10);
     if style < 4 {
@@ -155,12 +155,13 @@ fn mark_suppressed(random: &mut Random, p: &mut Picture) {
     }
     let percent = if style < 8 { 10 } else { 50 };
     let only_borders = style == 9;
+    let palette = if random.chance(50) { PALETTE } else { 0 };
     for number in 0..p.cells.len() / CELL_BYTES {
         if only_borders && !beside_border(p, number) {
             continue;
         }
         let mut mark = |flag: u8| if random.chance(percent) { flag } else { 0 };
-        p.cells[CELL_BYTES * number + 1] |= mark(LOSSLESS) | mark(PCM);
+        p.cells[CELL_BYTES * number + 1] |= mark(LOSSLESS) | mark(PCM) | mark(palette);
     }
 }
 

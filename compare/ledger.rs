@@ -1,6 +1,7 @@
 //! The refusal ledger of document 01 in Rust: which number and place a picture is answered with.
 //!
-//! Written from document 01 alone. It shares nothing with the stage, nor with the customer's Rust, which refuses nothing.
+//! Written from document 01, and C-19 of document 02 for flag bit 4, alone. It shares nothing with the stage, nor with the customer's Rust,
+//! which refuses nothing.
 
 use crate::picture::{CELL_BYTES, Picture, SLICE_BYTES};
 
@@ -84,7 +85,7 @@ fn bad_cell(p: &Picture) -> Option<usize> {
     let lowest = -6 * (p.luma_depth as i32 - 8);
     let allowed = |c: &[u8]| {
         (lowest..=51).contains(&(i32::from(c[0]) - 64))
-            && c[1] < 16
+            && c[1] < 32
             && c[2] <= 2
             && c[3] <= 2
             && usize::from(u16::from_le_bytes([c[4], c[5]])) < slices

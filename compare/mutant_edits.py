@@ -91,8 +91,8 @@ GATE = [
     Edit("filter/gate", "if s.disabled {", "if s.disabled && s.across {"),
     Edit("filter/gate", "if p.slice == q.slice {", "if p.slice <= q.slice {"),
     Edit("filter/gate", "slice_at(slices, q.slice as usize)", "slice_at(slices, p.slice as usize)"),
-    Edit("filter/gate", "return pcm;", "return true;"),
-    Edit("filter/gate", "if c.flags / 4 % 2 == 1 {", "if c.flags / 4 % 4 == 1 {"),
+    Edit("filter/gate", "((c.flags / 8 % 2 == 1) & pcm)", "(c.flags / 8 % 2 == 1)"),
+    Edit("filter/gate", "(c.flags / 4 % 2 == 1)", "(c.flags / 4 % 4 == 1)"),
     Edit("segments/between", "if luma { 1 } else { 2 }", "if luma { 1 } else { 1 }"),
     Edit("segments/between", "if !v.same {", "if !v.same && k.luma {"),
     Edit("segments/between", "if f.tc == 0 {\n            return", "if f.tc == 0 && f.beta == 0 {\n            return",
@@ -176,7 +176,7 @@ CHECKS = [
     Edit("list_checks/cells", "(115 < cell.qp)", "(116 < cell.qp)"),
     Edit("list_checks/cells", "(64 - 6 * (depth - 8)) as u8", "(63 - 6 * (depth - 8)) as u8"),
     Edit("list_checks/cells", "(2 < cell.bsh)", "(3 < cell.bsh)"),
-    Edit("list_checks/cells", "(15 < cell.flags)", "(31 < cell.flags)"),
+    Edit("list_checks/cells", "(31 < cell.flags)", "(63 < cell.flags)"),
     Edit("list_checks/cells", "(count <= cell.slice as usize)", "(count < cell.slice as usize)"),
     Edit("list_checks/cells", "(cells[at + 7] != 0)", "(1 < cells[at + 7])"),
     Edit("list_checks/samples", "if largest < plane[k] {", "if largest <= plane[k] {"),
@@ -237,5 +237,16 @@ EMPTY_LIST = [
     Edit("picture/slices", "if slices.len() == 0 {", "if slices.len() <= 4 {"),
 ]
 
+# The palette cells of document 02's C-19: the bit without a meaning, the PCM switch asked for it, another bit, luma (and 4:4:4) alone, and
+# the check of before.
+PALETTE = [
+    Edit("filter/gate", "(c.flags / 16 % 2 == 1)", "(c.flags / 16 % 2 == 2)"),
+    Edit("filter/gate", "(c.flags / 16 % 2 == 1)", "((c.flags / 16 % 2 == 1) & pcm)"),
+    Edit("filter/gate", "(c.flags / 16 % 2 == 1)", "(c.flags / 32 % 2 == 1)"),
+    Edit("restore/rows", "let suppressed = sample_suppressed(cells, pcm, n);",
+         "let suppressed = sample_suppressed(cells, pcm, n) & ((across == 4) | (cells[8 * n + 1] < 16));"),
+    Edit("list_checks/cells", "(31 < cell.flags)", "(15 < cell.flags)"),
+]
+
 EDITS = [*THRESHOLDS, *DECISION, *LINES, *WINDOWS, *GATE, *TILES_AND_POSITIONS, *PASSES, *RESTORATION, *CHECKS, *MISTAKES,
-         *EMPTY_LIST]
+         *EMPTY_LIST, *PALETTE]

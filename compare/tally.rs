@@ -29,6 +29,9 @@ pub struct Tally {
     parted: u64,
     empty_lists: u64,
     refused_empty_lists: u64,
+    with_palette: u64,
+    turned_beside: u64,
+    refused_with_palette: u64,
     many_slices: u64,
     luma_samples: u64,
     sides: [u64; 5],
@@ -72,6 +75,9 @@ impl Tally {
         self.left_out += u64::from(a.left_out);
         self.parted += u64::from(a.parted);
         self.empty_lists += u64::from(p.slices.is_empty());
+        let palette = a.coverage.suppressed.palette > 0;
+        self.with_palette += u64::from(palette);
+        self.turned_beside += u64::from(palette && !a.left_out);
         self.many_slices += u64::from(p.slices.len() == 2400);
         self.luma_samples += p.planes[0].len() as u64;
         self.sides[side_class(p)] += 1;
@@ -87,6 +93,7 @@ impl Tally {
     pub fn count_refused(&mut self, p: &Picture, verdict: Verdict, kinds: &[usize]) {
         self.refused[verdict.0 as usize] += 1;
         self.refused_empty_lists += u64::from(p.slices.is_empty());
+        self.refused_with_palette += u64::from(p.palette_cells() > 0);
         self.later_places += u64::from(verdict.1 > 0);
         self.several += u64::from(kinds.len() > 1);
         kinds.iter().for_each(|&kind| self.kinds[kind] += 1);
@@ -112,6 +119,9 @@ impl Tally {
         self.parted += more.parted;
         self.empty_lists += more.empty_lists;
         self.refused_empty_lists += more.refused_empty_lists;
+        self.with_palette += more.with_palette;
+        self.turned_beside += more.turned_beside;
+        self.refused_with_palette += more.refused_with_palette;
         self.many_slices += more.many_slices;
         self.luma_samples += more.luma_samples;
         add(&mut self.formats, &more.formats);
@@ -136,10 +146,11 @@ impl Tally {
             self.absent_grids, self.empty_lists, self.many_slices
         );
         println!(
-            "  left to the second program {}, of which the Rust leaves other samples in {}; beside the Rust {}",
+            "  beside the Rust {}, of which turned {}; left to the second program alone {}, of which the Rust leaves other samples in {}",
+            self.accepted - self.left_out,
+            self.turned_beside,
             self.left_out,
-            self.parted,
-            self.accepted - self.left_out
+            self.parted
         );
         let [y, cb, cr] = self.moved;
         println!("  samples moved: Y {y}, Cb {cb}, Cr {cr}");
@@ -148,6 +159,7 @@ impl Tally {
             "  suppressed cells {}; beside a tile border: before it {}, after it {}, on both sides {}",
             s.cells, s.before_border, s.after_border, s.on_both_sides
         );
+        println!("  with palette cells {}; palette cells {}, suppressed by nothing else {}", self.with_palette, s.palette, s.palette_alone);
         print_table("format (filtered chroma segments)", 0, &self.formats);
         print_table("luma depth (filtered luma segments)", 8, &self.luma_depths);
         print_table("chroma depth (filtered chroma segments)", 8, &self.chroma_depths);
@@ -168,7 +180,7 @@ impl Tally {
     fn print_refusals(&self) {
         let refused: u64 = self.refused.iter().sum();
         println!("refused {refused}; several kinds of damage at once {}; place not 0 {}", self.several, self.later_places);
-        println!("  empty slice list {}", self.refused_empty_lists);
+        println!("  empty slice list {}; with palette cells {}", self.refused_empty_lists, self.refused_with_palette);
         let numbers: Vec<String> = (1..=10).map(|n| format!("{n}: {}", self.refused[n])).collect();
         println!("  by number: {}", numbers.join(", "));
         println!("  by kind of damage:");

@@ -116,7 +116,7 @@ pub const KINDS: &[Kind] = &[
         cell_byte(p, 0, r, |r, _| r.pick(&[least - 1, least - 1, 0]))
     }),
     kind("cell: QP above 51", 9, |p, r| cell_byte(p, 0, r, |r, _| r.pick(&[116, 116, 128, 255]))),
-    kind("cell: a flag that is none", 9, |p, r| cell_byte(p, 1, r, |r, flags| flags | 16 << r.below(4))),
+    kind("cell: a flag that is none", 9, |p, r| cell_byte(p, 1, r, |r, flags| flags | 32 << r.below(3))),
     kind("cell: vertical bS above 2", 9, |p, r| cell_byte(p, 2, r, |r, _| r.pick(&[3, 3, 128, 255]))),
     kind("cell: horizontal bS above 2", 9, |p, r| cell_byte(p, 3, r, |r, _| r.pick(&[3, 3, 128, 255]))),
     kind("cell: first slice not in the list", 9, |p, r| cell_slice(p, r, |_, count| count)),
