@@ -154,7 +154,7 @@ static void expect_step(struct Picture *p, const char *name, int first, int end)
 
 static void expect_copied(struct Picture *p, const char *name, int original, int output) {
     int same = memcmp(at(&p->lent[original]), at(&p->lent[output]), p->lent[output].bytes) == 0;
-    expect(same, name, "a sample that no edge touches");
+    expect(same, name, "a sample that stays");
 }
 
 static void expect_chroma_copied(struct Picture *p, const char *name) {
@@ -225,6 +225,22 @@ static void chroma_cases(void) {
     run(&p, "T1 in Cb", 0, 0);
     expect_step(&p, "T1 in Cb", 0, HEIGHT);
     expect_chroma_copied(&p, "T1 in Cb");
+    done(&p);
+}
+
+/* The cells left of luma column 16 are palette cells: luma's step at column 8 stays, and of Cb's at its column 8 the
+ * left side, at either setting of the PCM switch; the right side moves as in K1. */
+static void palette_case(const char *name, bool pcm) {
+    struct Picture p = chroma_step();
+    p.pcm = pcm;
+    for (int i = 0; i < CELLS; i++) cell(&p, i, 0)[1] |= i % (WIDTH / 4) < 4 ? 16 : 0;
+    run(&p, name, 0, 0);
+    for (int i = 0; i < CHROMA; i++) {
+        int x = i % (WIDTH / 2);
+        expect(samples(&p, OUT_CB)[i] == (x < 8 ? 50 : x == 8 ? 56 : 60), name, "a Cb sample");
+    }
+    expect_copied(&p, name, Y, OUT_Y);
+    expect_copied(&p, name, CR, OUT_CR);
     done(&p);
 }
 
@@ -313,6 +329,9 @@ static void refused_cells(void) {
     resize(&p, SLICE, 0, 0);
     cell(&p, 1, 3)[4] = 1;
     refused(&p, "9: cell 25 has slice 1, no slice", 9, 25);
+    p = accepted();
+    cell(&p, 1, 1)[1] = 32;
+    refused(&p, "9: cell 9 has flags 32", 9, 9);
 }
 
 static void refused_samples(void) {
@@ -333,6 +352,8 @@ static void refused_samples(void) {
 int main(void) {
     luma_cases();
     chroma_cases();
+    palette_case("palette cells, PCM switch off", false);
+    palette_case("palette cells, PCM switch on", true);
     unfiltered_cases();
     refused_settings();
     refused_lengths();

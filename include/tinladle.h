@@ -37,11 +37,14 @@ extern "C" {
  *
  * The 8 bytes of a cell:
  *   0     QP plus 64; the QP is from -6 * (luma_depth - 8) to 51
- *   1     bit 0: an edge on its left side; bit 1: an edge on its top side; bit 2: lossless; bit 3: PCM; the others 0
+ *   1     bit 0: an edge on its left side; bit 1: an edge on its top side; bit 2: lossless; bit 3: PCM; bit 4: palette;
+ *         the others 0
  *   2     bS of the edge on its left side, 0 to 2
  *   3     bS of the edge on its top side, 0 to 2
  *   4, 5  number of its slice, low byte first
  *   6, 7  0
+ * A cell that is lossless or palette, or PCM where pcm_loop_filter_disabled is set, keeps its original samples in every
+ * plane. Its edges are filtered all the same, for the samples on their other side.
  *
  * The 4 bytes of a slice:
  *   0     1 where the left and top edges of its cells are not filtered, else 0
