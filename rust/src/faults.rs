@@ -5,7 +5,7 @@
 
 use crate::counted::counted;
 use crate::picture::Picture;
-use crate::records::{Cell, Slice};
+use crate::records::{Cell, FLAGS, Slice};
 use crate::refusal::Cause;
 use crate::settings::{Plane, Settings};
 
@@ -122,7 +122,7 @@ fn cell(picture: &Picture<'_>, place: u64) -> String {
     };
     those([
         (i64::from(qp) < lowest || qp > 64 + 51, format!("QP byte {qp}")),
-        (flags > 15, format!("flags byte {flags}")),
+        (flags & !FLAGS != 0, format!("flags byte {flags}")),
         (left > 2, format!("left bS {left}")),
         (top > 2, format!("top bS {top}")),
         (usize::from(own) >= slices, slice),

@@ -1,14 +1,18 @@
-//! A picture for people: before, after, and the moved samples marked, side by side as a PPM.
+//! A picture for people: before, after, and the moved samples and the palette cells marked, side by side as a PPM.
 
 use std::io::{self, Write};
 
 use crate::picture::{Picture, PlanesBuf};
+use crate::records::is_palette;
 use crate::settings::{Plane, Settings};
 
 /// White columns between the three parts.
 pub const GAP: usize = 4;
 
 const WHITE: [u8; 3] = [255; 3];
+
+/// Added to the green of a palette cell.
+const GREEN: u8 = 96;
 
 /// Samples of one picture, looked up by luma position.
 struct View<'a> {
@@ -43,14 +47,15 @@ impl View<'_> {
     }
 }
 
-/// Red where luma moved, blue where chroma did, both where both did, on the picture in dark grey.
-fn marked(before: &View<'_>, after: &View<'_>, x: usize, y: usize) -> [u8; 3] {
+/// Red where luma moved, blue where chroma did, both where both did, on the picture in dark grey, or green in a palette
+/// cell, whose samples stay.
+fn marked(before: &View<'_>, after: &View<'_>, palette: bool, x: usize, y: usize) -> [u8; 3] {
     let moved = |plane| before.at(plane, x, y) != after.at(plane, x, y);
     let luma = moved(Plane::Y);
     let chroma = moved(Plane::Cb) || moved(Plane::Cr);
     let grey = (after.byte(Plane::Y, x, y).unwrap_or(0) / 3).clamp(0, 255) as u8;
     match (luma, chroma) {
-        (false, false) => [grey; 3],
+        (false, false) => [grey, if palette { grey.saturating_add(GREEN) } else { grey }, grey],
         (true, false) => [255, 64, 64],
         (false, true) => [80, 120, 255],
         (true, true) => [255, 64, 255],
@@ -58,7 +63,8 @@ fn marked(before: &View<'_>, after: &View<'_>, x: usize, y: usize) -> [u8; 3] {
 }
 
 /// Writes a PPM (P6) of three parts: the picture before, the picture after, and the moved samples marked: luma red,
-/// chroma blue, both magenta. `finished` holds the planes that the stage left of an accepted picture.
+/// chroma blue, both magenta; palette cells are green. `finished` holds the planes that the stage left of an accepted
+/// picture.
 pub fn write_ppm(picture: &Picture<'_>, finished: &PlanesBuf, out: &mut impl Write) -> io::Result<()> {
     let settings = picture.settings;
     let (width, height) = (settings.width as usize, settings.height as usize);
@@ -72,7 +78,8 @@ pub fn write_ppm(picture: &Picture<'_>, finished: &PlanesBuf, out: &mut impl Wri
         row.extend([WHITE; GAP].as_flattened());
         row.extend((0..width).flat_map(|x| after.colour(x, y)));
         row.extend([WHITE; GAP].as_flattened());
-        row.extend((0..width).flat_map(|x| marked(&before, &after, x, y)));
+        let palette = |x: usize| is_palette(picture.cells, y / 4 * (width / 4) + x / 4);
+        row.extend((0..width).flat_map(|x| marked(&before, &after, palette(x), x, y)));
         out.write_all(&row)?;
     }
     Ok(())

@@ -1,6 +1,7 @@
 //! A picture as the stage is lent it, and the planes that the stage writes.
 
 use crate::memory::{OutOfMemory, filled};
+use crate::records::{Cell, is_palette};
 use crate::settings::{Plane, Settings};
 
 /// A picture of borrowed lists. It is only read.
@@ -47,6 +48,12 @@ impl<'a> Picture<'a> {
     /// The original samples of the three planes.
     pub fn samples(&self) -> [&'a [u16]; 3] {
         [self.y, self.cb, self.cr]
+    }
+
+    /// How many cells are marked [palette](crate::Cell::palette), and so keep their samples where the picture is
+    /// accepted.
+    pub fn palette_cells(&self) -> usize {
+        (0..self.cells.len() / Cell::BYTES).filter(|&number| is_palette(self.cells, number)).count()
     }
 }
 

@@ -6,7 +6,7 @@ use std::fs;
 
 use common::tool::{folder, load, refused, s1, s1_filtered, store, tinladle};
 use common::{edges, flat, samples, small};
-use tinladle::{ChromaFormat, PictureBuf, Settings, Slice};
+use tinladle::{Cell, ChromaFormat, PictureBuf, Settings, Slice};
 
 /// Five samples on each of the 16 rows.
 const S1_TABLE: [&str; 4] = [
@@ -52,6 +52,38 @@ fn a_picture_without_slices_is_told_what_they_stand_for() {
     let refused = tinladle(&at, &["check", "c.pic"]);
     assert_eq!(refused.status, 1);
     assert!(!refused.out.contains("no slice record"), "{}", refused.out);
+}
+
+#[test]
+fn palette_cells_are_told_and_drawn() {
+    let at = folder("palette");
+    let mut picture = s1();
+    // The P side of S1's step at column 8: two columns of cells.
+    for number in (0..picture.cells.len() / Cell::BYTES).filter(|number| number % 8 < 2) {
+        picture.cells[Cell::BYTES * number + 1] |= 16;
+    }
+    store(&at.join("a.pic"), picture.clone());
+    let verdict = "a.pic: accepted\n  palette cells, which keep their samples: 8 of 32\n";
+    let verbs: [(&[&str], &str); 4] = [
+        (&["check", "a.pic"], "of 32\n"),
+        (&["tiles", "a.pic"], "from the tile filtered alone: 0\n"),
+        (&["deblock", "a.pic", "b.pic"], "written: b.pic\n"),
+        (&["picture", "a.pic", "a.ppm"], "both magenta; palette cells green)\n"),
+    ];
+    for (words, end) in verbs {
+        let ran = tinladle(&at, words);
+        assert_eq!((ran.status, ran.err.as_str()), (0, ""), "{words:?}");
+        assert!(ran.out.starts_with(verdict) && ran.out.ends_with(end), "{words:?}: {}", ran.out);
+    }
+    // The third part: column 7 is palette, does not move and is green; column 8 moves and is red; column 15 is grey.
+    let bytes = fs::read(at.join("a.ppm")).unwrap();
+    let third = bytes.len() - 3 * 104 * 16 + 3 * 72;
+    let pixel = |x: usize| bytes[third + 3 * x..][..3].to_vec();
+    assert_eq!((pixel(7), pixel(8), pixel(15)), (vec![33, 33 + 96, 33], vec![255, 64, 64], vec![34; 3]));
+    picture.cells[1] |= 32;
+    store(&at.join("c.pic"), picture);
+    let refused = "c.pic: refused 9: cell 0 is out of range: flags byte 51\n";
+    assert_eq!(tinladle(&at, &["check", "c.pic"]).out, refused);
 }
 
 #[test]

@@ -93,7 +93,8 @@ fn a_suppressed_cell_keeps_its_samples_and_closes_no_edge() {
     let step = |x: usize, _| if x < 8 { 100 } else { 104 };
     let [.., q0, q1, q2, q3] = SEGMENTS[0].3;
     let line = [&[100; 8][..], &[q0, q1, q2, q3], &[104; 4]].concat();
-    for (cell, switch) in [(edges(37).lossless(), false), (edges(37).lossless(), true), (edges(37).pcm(), true)] {
+    let lossless_or_palette = [edges(37).lossless(), edges(37).palette()].map(|cell| [(cell, false), (cell, true)]);
+    for (cell, switch) in lossless_or_palette.into_iter().flatten().chain([(edges(37).pcm(), true)]) {
         let mut picture = luma(16, 8, 37, step);
         picture.settings.pcm_loop_filter_disabled = switch;
         let mut cells = Cells::filled(&picture.settings, edges(37));
@@ -108,6 +109,24 @@ fn a_suppressed_cell_keeps_its_samples_and_closes_no_edge() {
     picture.cells = Cells::filled(&picture.settings, edges(37).pcm()).as_bytes().to_vec();
     let line = [&[100; 4][..], &SEGMENTS[0].3, &[104; 4]].concat();
     assert_eq!(run(&picture).unwrap().y, samples(16, 8, |x, _| line[x]));
+}
+
+/// K1's step by document 02's C-19: the samples of palette cells stay in chroma too, at either setting of the switch.
+#[test]
+fn a_palette_cell_keeps_its_chroma() {
+    for switch in [false, true] {
+        let mut picture = flat(Settings::new(32, 16, ChromaFormat::Yuv420), edges(37));
+        picture.settings.pcm_loop_filter_disabled = switch;
+        picture.planes.cb = samples(16, 8, |x, _| if x < 8 { 50 } else { 60 });
+        picture.planes.cr = samples(16, 8, |x, _| if x < 8 { 60 } else { 50 });
+        let mut cells = Cells::filled(&picture.settings, edges(37));
+        (0..4).for_each(|row| (4..8).for_each(|column| cells.set(column, row, edges(37).palette())));
+        picture.cells = cells.as_bytes().to_vec();
+        assert_eq!(picture.picture().palette_cells(), 16);
+        let out = run(&picture).unwrap();
+        assert_eq!(out.cb, samples(16, 8, |x, _| [50, 54, 60][usize::from(x > 6) + usize::from(x > 7)]), "{switch}");
+        assert_eq!(out.cr, samples(16, 8, |x, _| [60, 56, 50][usize::from(x > 6) + usize::from(x > 7)]), "{switch}");
+    }
 }
 
 /// S3's samples by document 02's C-13: without slice records tc is that of row 37, 4, and not of row 39, 5.

@@ -145,10 +145,10 @@ fn row_9_cell_2_has_qp_byte_63() {
 
 #[test]
 fn row_9_the_other_bytes() {
-    let bytes = [116, 16, 3, 255, 1, 1, 7, 9];
+    let bytes = [116, 32, 3, 255, 1, 1, 7, 9];
     let details = [
         "QP byte 116",
-        "flags byte 16",
+        "flags byte 32",
         "left bS 3",
         "top bS 255",
         "slice 1 of 1",

@@ -11,9 +11,10 @@ fn each_part_of_a_cell_has_its_byte() {
     assert_eq!(cell.top_edge(Bs::Two).to_bytes(), [64, 2, 0, 2, 0, 0, 0, 0]);
     assert_eq!(cell.lossless().to_bytes(), [64, 4, 0, 0, 0, 0, 0, 0]);
     assert_eq!(cell.pcm().to_bytes(), [64, 8, 0, 0, 0, 0, 0, 0]);
+    assert_eq!(cell.palette().to_bytes(), [64, 16, 0, 0, 0, 0, 0, 0]);
     assert_eq!(cell.slice(599).to_bytes(), [64, 0, 0, 0, 87, 2, 0, 0], "599 is 2 * 256 + 87");
-    let all = cell.left_edge(Bs::Two).top_edge(Bs::One).lossless().pcm().slice(1);
-    assert_eq!(all.to_bytes(), [64, 15, 2, 1, 1, 0, 0, 0]);
+    let all = cell.left_edge(Bs::Two).top_edge(Bs::One).lossless().pcm().palette().slice(1);
+    assert_eq!(all.to_bytes(), [64, 31, 2, 1, 1, 0, 0, 0]);
 }
 
 #[test]

@@ -18,6 +18,15 @@ const LEFT_EDGE: u8 = 1;
 const TOP_EDGE: u8 = 2;
 const LOSSLESS: u8 = 4;
 const PCM: u8 = 8;
+const PALETTE: u8 = 16;
+
+/// All flags that there are.
+pub(crate) const FLAGS: u8 = LEFT_EDGE | TOP_EDGE | LOSSLESS | PCM | PALETTE;
+
+/// Whether a record of a list of cells is that of a palette cell.
+pub(crate) fn is_palette(cells: &[u8], number: usize) -> bool {
+    cells.get(Cell::BYTES * number + 1).is_some_and(|flags| flags & PALETTE != 0)
+}
 
 /// One 4 by 4 luma block.
 ///
@@ -69,7 +78,8 @@ impl Cell {
         self
     }
 
-    /// Suppressed: it keeps its original samples.
+    /// Lossless: suppressed, that is it keeps its original samples, in luma and chroma. Its edges are filtered all the
+    /// same, for the samples on their other side.
     #[must_use]
     pub fn lossless(mut self) -> Self {
         self.bytes[1] |= LOSSLESS;
@@ -80,6 +90,13 @@ impl Cell {
     #[must_use]
     pub fn pcm(mut self) -> Self {
         self.bytes[1] |= PCM;
+        self
+    }
+
+    /// Palette, as of screen content: suppressed at either setting of the PCM switch.
+    #[must_use]
+    pub fn palette(mut self) -> Self {
+        self.bytes[1] |= PALETTE;
         self
     }
 

@@ -10,6 +10,7 @@ use std::error::Error;
 use std::fmt;
 
 pub use cell::{Bs, Cell, Cells};
+pub(crate) use cell::{FLAGS, is_palette};
 pub use slice::{Slice, Slices};
 
 /// A value that a record cannot hold.

@@ -10,8 +10,8 @@ use std::fs::{self, File};
 use std::io;
 use std::path::Path;
 
-use tinladle::PlanesBuf;
 use tinladle::container::{BadFile, StoredPicture};
+use tinladle::{Cell, PlanesBuf};
 
 use super::progress::Progress;
 use super::work::{Failure, bad};
@@ -42,10 +42,19 @@ fn filter(path: &Path, stored: &StoredPicture, progress: &Progress) -> Result<Pl
     }
 }
 
-/// The verdict; and what an empty slice list stands for, since nothing in the file shows it.
+/// The verdict; what an empty slice list stands for, since nothing in the file shows it; and how many palette cells
+/// there are.
 fn accepted(path: &Path, stored: &StoredPicture) -> String {
-    let no_slice = "  no slice record: one slice with tc offset div2 -1\n";
-    format!("{}: accepted\n{}", path.display(), if stored.picture.slices.is_empty() { no_slice } else { "" })
+    let mut verdict = format!("{}: accepted\n", path.display());
+    if stored.picture.slices.is_empty() {
+        verdict += "  no slice record: one slice with tc offset div2 -1\n";
+    }
+    let palette = stored.picture.picture().palette_cells();
+    if palette > 0 {
+        let cells = stored.picture.cells.len() / Cell::BYTES;
+        verdict += &format!("  palette cells, which keep their samples: {palette} of {cells}\n");
+    }
+    verdict
 }
 
 fn unwritten(output: &Path, error: io::Error) -> Failure {

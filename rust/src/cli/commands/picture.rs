@@ -17,7 +17,8 @@ fn drawn(input: &Path, output: &Path, progress: &Progress) -> Outcome {
     progress.doing(format!("writing {}", output.display()));
     output::write_whole(output, |sink| image::write_ppm(&stored.picture.picture(), &finished, sink))
         .map_err(|error| unwritten(output, error))?;
-    let note = "before, after, and the moved samples (luma red, chroma blue, both magenta)";
+    let palette = if stored.picture.picture().palette_cells() > 0 { "; palette cells green" } else { "" };
+    let note = format!("before, after, and the moved samples (luma red, chroma blue, both magenta{palette})");
     Ok((format!("{}  picture: {}: {note}\n", accepted(input, &stored), output.display()), 0))
 }
 
