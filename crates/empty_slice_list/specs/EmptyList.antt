@@ -5,20 +5,11 @@ use mathlib.Core.Path.{_≡_}
 use mathlib.Core.List.{List, [], _∷_}
 use Rattle.filter.specs.Finished.{outputs}
 use Rattle.picture.specs.Causes.{verdict}
-use Rattle.picture.specs.Picture.{Picture, Planes}
+use Rattle.picture.specs.Picture.{Picture, Planes, withLists}
 
 -- the same picture with another slice list
 abbrev pub withSlices : List ℕ → Picture → Picture
-withSlices slices p = record {
-  width = p .width;
-  height = p .height;
-  settings = p .settings;
-  originals = p .originals;
-  cells = p .cells;
-  slices = slices;
-  columns = p .columns;
-  rows = p .rows;
-}
+withSlices slices p = withLists (p .cells) slices p
 
 -- The empty list stands for the list l: every picture whose slice list is empty has the answer and the output planes
 -- of the same picture with l. No picture is left out: one with a cell that names another slice than 0 is refused either

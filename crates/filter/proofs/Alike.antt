@@ -12,31 +12,15 @@ use Rattle.filter.specs.Kernel.{Filter, kernel}
 use Rattle.filter.specs.Pass.{pass}
 use Rattle.filter.specs.Segment.{Direction, vertical, horizontal, Position, segmentAt, segment}
 use Rattle.picture.specs.Causes.{verdict}
-use Rattle.picture.specs.Cell.{suppressed, cellOfSample}
+use Rattle.picture.specs.Cell.{suppressed, cellBeneath}
 use Rattle.picture.specs.Ledger.{Verdict}
-use Rattle.picture.specs.Picture.{Picture, Planes, planeWidth, planeHeight, original}
+use Rattle.picture.specs.Picture.{Picture, Planes, withLists, planeWidth, planeHeight, original}
 use Rattle.picture.specs.Plane.{Plane, table, transposed}
-use Rattle.picture.specs.Scale.{Component, Y, Cb, Cr, samplingAcross, samplingDown, toLuma}
-
--- the same picture with other cell and slice lists
-abbrev pub withLists : List ℕ → List ℕ → Picture → Picture
-withLists cells slices p = record {
-  width = p .width;
-  height = p .height;
-  settings = p .settings;
-  originals = p .originals;
-  cells = cells;
-  slices = slices;
-  columns = p .columns;
-  rows = p .rows;
-}
+use Rattle.picture.specs.Scale.{Component, Y, Cb, Cr}
 
 -- whether a component's sample is suppressed
 abbrev pub mark : Picture → Component → ℕ → ℕ → Bool
-mark p c x y =
-    suppressed (p .settings .pcm-loop-filter-disabled)
-    (cellOfSample p (toLuma (samplingAcross (p .settings .format) c) x)
-    (toLuma (samplingDown (p .settings .format) c) y))
+mark p c x y = suppressed (p .settings .pcm-loop-filter-disabled) (cellBeneath p c x y)
 
 -- a component's finished samples, for segments that are filtered and samples that are suppressed in any way
 finishedBy : Picture → Component → (Direction → ℕ → ℕ → Option Filter) → (ℕ → ℕ → Bool) → Plane
@@ -53,37 +37,37 @@ finished-by : (p : Picture) (c : Component) → finishedPlane p c ≡ finishedBy
 unfolding finishedBy finishedPlane passOf restored
 finished-by p c = refl
 
-module _ (p : Picture) (k l m n : List ℕ) where
+module _ (p : Picture) (cells slices cells′ slices′ : List ℕ) where
   -- nothing but these looks at the two lists
   lists-unseen : (c : Component) (by : Direction → ℕ → ℕ → Option Filter) (kept : ℕ → ℕ → Bool)
-      → finishedBy (withLists k l p) c by kept ≡ finishedBy (withLists m n p) c by kept
+      → finishedBy (withLists cells slices p) c by kept ≡ finishedBy (withLists cells′ slices′ p) c by kept
   unfolding finishedBy
   lists-unseen c by kept = refl
 
   abbrev pub Alike : Type 0
   Alike = (c : Component) (d : Direction) (a b : Position)
-      → segmentAt (withLists k l p) c d a b ≡ segmentAt (withLists m n p) c d a b
+      → segmentAt (withLists cells slices p) c d a b ≡ segmentAt (withLists cells′ slices′ p) c d a b
 
   abbrev pub SameMarks : Type 0
-  SameMarks = (c : Component) (x y : ℕ) → mark (withLists k l p) c x y ≡ mark (withLists m n p) c x y
+  SameMarks = (c : Component) (x y : ℕ) → mark (withLists cells slices p) c x y ≡ mark (withLists cells′ slices′ p) c x y
 
   module _ (alike : Alike) (marked : SameMarks) where
-    plane-alike : (c : Component) → finishedPlane (withLists k l p) c ≡ finishedPlane (withLists m n p) c
+    plane-alike : (c : Component) → finishedPlane (withLists cells slices p) c ≡ finishedPlane (withLists cells′ slices′ p) c
     plane-alike c =
-        finished-by (withLists k l p) c
-        ∙ (λ i. finishedBy (withLists k l p) c (λ d e line. at d e line i) (λ x y. marked c x y i))
-        ∙ lists-unseen c (segment (withLists m n p) c) (mark (withLists m n p) c)
-        ∙ sym (finished-by (withLists m n p) c)
+        finished-by (withLists cells slices p) c
+        ∙ (λ i. finishedBy (withLists cells slices p) c (λ d e line. at d e line i) (λ x y. marked c x y i))
+        ∙ lists-unseen c (segment (withLists cells′ slices′ p) c) (mark (withLists cells′ slices′ p) c)
+        ∙ sym (finished-by (withLists cells′ slices′ p) c)
       where
-        at : (d : Direction) (e line : ℕ) → segment (withLists k l p) c d e line ≡ segment (withLists m n p) c d e line
+        at : (d : Direction) (e line : ℕ) → segment (withLists cells slices p) c d e line ≡ segment (withLists cells′ slices′ p) c d e line
         at d e line = alike c d _ _
 
     list-alike : (c : Component)
-        → table (planeWidth p c) (planeHeight p c) (finishedPlane (withLists k l p) c)
-        ≡ table (planeWidth p c) (planeHeight p c) (finishedPlane (withLists m n p) c)
+        → table (planeWidth p c) (planeHeight p c) (finishedPlane (withLists cells slices p) c)
+        ≡ table (planeWidth p c) (planeHeight p c) (finishedPlane (withLists cells′ slices′ p) c)
     list-alike c = ap (table (planeWidth p c) (planeHeight p c)) (plane-alike c)
 
-    pub finished-alike : finished (withLists k l p) ≡ finished (withLists m n p)
+    pub finished-alike : finished (withLists cells slices p) ≡ finished (withLists cells′ slices′ p)
     unfolding finished
     finished-alike = λ i. record { y = list-alike Y i; cb = list-alike Cb i; cr = list-alike Cr i }
 

@@ -9,26 +9,20 @@ use Rattle.filter.specs.Kernel.{kernel}
 use Rattle.filter.specs.Pass.{pass}
 use Rattle.filter.specs.Segment.{Direction, vertical, horizontal, segment}
 use Rattle.picture.specs.Causes.{verdict}
-use Rattle.picture.specs.Cell.{suppressed, cellOfSample}
+use Rattle.picture.specs.Cell.{suppressed, cellBeneath}
 use Rattle.picture.specs.Picture.{Picture, Planes, planeWidth, planeHeight, original}
 use Rattle.picture.specs.Plane.{Plane, table, transposed}
-use Rattle.picture.specs.Scale.{Component, Y, Cb, Cr, samplingAcross, samplingDown, toLuma}
+use Rattle.picture.specs.Scale.{Component, Y, Cb, Cr}
 
 -- one of a component's two passes. A horizontal edge is a vertical one of the plane with columns and rows exchanged.
 unfoldable pub passOf : Picture → Component → Direction → Plane → Plane
 passOf p c vertical P = pass kernel (planeWidth p c) (segment p c vertical) P
 passOf p c horizontal P = transposed (pass kernel (planeHeight p c) (segment p c horizontal) (transposed P))
 
--- 'Restoration': "After each pass a held cell has its original samples again"; "A chroma sample belongs to the cell
--- of its scaled luma position."
+-- 'Restoration': "After each pass a held cell has its original samples again"; held is suppressed here
 unfoldable pub restored : Picture → Component → Plane → Plane
 restored p c P x y =
-    cond
-    (suppressed (p .settings .pcm-loop-filter-disabled)
-    (cellOfSample p (toLuma (samplingAcross (p .settings .format) c) x)
-    (toLuma (samplingDown (p .settings .format) c) y)))
-    (original p c x y)
-    (P x y)
+    cond (suppressed (p .settings .pcm-loop-filter-disabled) (cellBeneath p c x y)) (original p c x y) (P x y)
 
 -- a component's finished samples
 unfoldable pub finishedPlane : Picture → Component → Plane

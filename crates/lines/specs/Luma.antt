@@ -1,5 +1,5 @@
 -- ITU-T H.265 clause 8.7.2.5.7 at a general depth: the filtering of one luma line.
--- A PCM or lossless side is filtered too and restored after the pass, where the clause sets nDp or nDq to 0
+-- A suppressed side is filtered too and restored after the pass, where the clause sets nDp or nDq to 0
 -- (docs/DIFFERENCES.md).
 use Prim.Native.Nat.{ℕ, _*_}
 use mathlib.Core.Bool.{Bool, cond}

@@ -1,7 +1,7 @@
 -- What becomes of flags when bit 4 is turned into bit 2.
 use Prim.Native.Nat.{ℕ, _+_, _-_, _*_, _/_, _%_, _≤_, _<_}
 use mathlib.Core.Path.{_≡_, refl, ap, sym, _∙_}
-use mathlib.Core.Bool.{Bool, true, false, _||_}
+use mathlib.Core.Bool.{Bool, true, false, _||_, or-true, or-false}
 use mathlib.Core.Logic.{_⊎_, inl, inr}
 use native.Mathlib.Omega.{arith}
 use borrow.Author.Tests.{eqb-true, eqb-false, eq-eqb, lt-ltb, le-ltb}
@@ -50,13 +50,13 @@ module _ (f : ℕ) (s : Digits f) where
   one-is = last (8 * s .above + 4 * s .four + 2 * s .three + s .two) (s .below / 2) (omega arith)
 
   two-is : f / 4 % 2 ≡ s .two
-  two-is = last (4 * s .above + 2 * s .four + s .three) (s .two) (omega arith) ∙ (omega arith)
+  two-is = last (4 * s .above + 2 * s .four + s .three) (s .two) (omega arith) ∙ omega arith
 
   three-is : f / 8 % 2 ≡ s .three
-  three-is = last (2 * s .above + s .four) (s .three) (omega arith) ∙ (omega arith)
+  three-is = last (2 * s .above + s .four) (s .three) (omega arith) ∙ omega arith
 
   four-is : f / 16 % 2 ≡ s .four
-  four-is = last (s .above) (s .four) (omega arith) ∙ (omega arith)
+  four-is = last (s .above) (s .four) (omega arith) ∙ omega arith
 
 -- ---- flags f and what they become, g
 
@@ -68,20 +68,12 @@ pub record Turns (f g : ℕ) : Type 0 where
   pub fourth : bit g 4 ≡ false
   pub large : ltb 31 g ≡ ltb 31 f
 
-or-false : (b : Bool) → b ≡ (b || false)
-or-false true = refl
-or-false false = refl
-
-or-true : (b : Bool) → true ≡ (b || true)
-or-true true = refl
-or-true false = refl
-
 -- without bit 4 they stay
 staying : (f : ℕ) → bit f 4 ≡ false → Turns f f
 staying f e = record {
   zeroth = refl;
   first = refl;
-  second = rw e (or-false (bit f 2));
+  second = rw e (sym (or-false (bit f 2)));
   third = refl;
   fourth = e;
   large = refl;
@@ -106,7 +98,7 @@ turning f g s four is = record {
   first = same-bit (one-is g t ∙ sym (one-is f s));
   second =
       eq-eqb _ _ (two-is g t)
-      ∙ or-true (bit f 2)
+      ∙ sym (or-true (bit f 2))
       ∙ ap (λ (b : Bool). bit f 2 || b) (sym (eq-eqb _ _ (four-is f s ∙ four)));
   third = same-bit (three-is g t ∙ sym (three-is f s));
   fourth = same-bit (four-is g t);

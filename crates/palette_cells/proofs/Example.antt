@@ -64,17 +64,17 @@ luma switch = sample 12 ∷ sample 13 ∷ sample 14 ∷ sample 15 ∷ sample 16 
     sample : ℕ → ℕ
     sample x = finishedPlane (picture switch) Y x 2
 
-abbrev blue : Bool → List ℕ
-blue switch = sample 6 ∷ sample 7 ∷ sample 8 ∷ sample 9 ∷ []
+abbrev cb : Bool → List ℕ
+cb switch = sample 6 ∷ sample 7 ∷ sample 8 ∷ sample 9 ∷ []
   where
     sample : ℕ → ℕ
     sample x = finishedPlane (picture switch) Cb x 2
 
 left-stays : (switch : Bool)
-    → (luma switch ≡ 100 ∷ 100 ∷ 100 ∷ 100 ∷ 103 ∷ 103 ∷ 104 ∷ 104 ∷ []) × (blue switch ≡ 50 ∷ 50 ∷ 56 ∷ 60 ∷ [])
+    → (luma switch ≡ 100 ∷ 100 ∷ 100 ∷ 100 ∷ 103 ∷ 103 ∷ 104 ∷ 104 ∷ []) × (cb switch ≡ 50 ∷ 50 ∷ 56 ∷ 60 ∷ [])
 unfolding _⊖_ _⊞_ _⊟_ neg _⊠_ lt _>>_ clip3 abs natOf passOf restored finishedPlane kernel window pass slicesOpen gate
-    lumaFilter chromaFilter between segmentAt activity dSam decision clip1 near strongLine delta0 sideDelta second weakBy
-    weakLine lumaLine chromaDelta chromaLine cellAt suppressed at table sliceAt sameTile averageQp betaIndex tcIndex
-    scaled lumaBeta lumaTc tableQpc chromaQp chromaTc BETA TC QPC
+    lumaFilter chromaFilter between segmentAt activity dSam decision clip1 near strongLine delta0 sideDelta second
+    weakBy weakLine lumaLine chromaDelta chromaLine cellAt suppressed at table sliceAt sameTile averageQp betaIndex
+    tcIndex scaled lumaBeta lumaTc tableQpc chromaQp chromaTc BETA TC QPC
 left-stays true = (refl, refl)
 left-stays false = (refl, refl)

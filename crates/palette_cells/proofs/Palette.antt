@@ -1,7 +1,7 @@
 -- A palette cell keeps its samples, and it is as good as a lossless one.
 use Prim.Native.Nat.{ℕ}
 use mathlib.Core.Path.{_≡_, refl, ap, sym, _∙_}
-use mathlib.Core.Bool.{Bool, true, false, _&&_, _||_}
+use mathlib.Core.Bool.{Bool, true, false, _&&_, _||_, or-true}
 use mathlib.Core.List.{List}
 use Rattle.filter.specs.Finished.{restored, finishedPlane, finished}
 use Rattle.filter.specs.Segment.{
@@ -19,14 +19,14 @@ use Rattle.filter.specs.Segment.{
   segmentAt,
 }
 use Rattle.filter.proofs.Alike.{Alike, SameMarks, finished-alike, outputs-alike}
-use Rattle.picture.specs.Cell.{bit, cellNumber, suppressed}
+use Rattle.picture.specs.Cell.{bit, cellAt, cellNumber, cellBeneath, suppressed}
 use Rattle.picture.specs.declared.Cell.{Cell}
 use Rattle.picture.specs.declared.Slice.{Slice}
 use Rattle.picture.specs.Picture.{Picture, Settings}
 use Rattle.picture.specs.Scale.{Component, Y, Cb, Cr, cellOf}
 use Rattle.picture.specs.Slice.{sliceAt}
 use Rattle.picture.specs.Tile.{sameTile}
-use Rattle.palette_cells.specs.Palette.{cellBeneath, PaletteKept, PaletteAsLossless, turned, turnedFrom}
+use Rattle.palette_cells.specs.Palette.{PaletteKept, PaletteAsLossless, turned, turnedFrom}
 use Rattle.palette_cells.proofs.Bits.{turns}
 use Rattle.palette_cells.proofs.Turned.{turnedCell, cell-turned}
 use Rattle.palette_cells.proofs.Verdict.{answered}
@@ -36,10 +36,6 @@ use Rattle.palette_cells.proofs.Verdict.{answered}
 palette-suppressed : (pcm : Bool) (c : Cell) → bit (c .flags) 4 ≡ true → suppressed pcm c ≡ true
 unfolding suppressed
 palette-suppressed pcm c e = rw e (or-true (bit (c .flags) 2 || (bit (c .flags) 3 && pcm)))
-  where
-    or-true : (b : Bool) → (b || true) ≡ true
-    or-true true = refl
-    or-true false = refl
 
 pub palette-kept : PaletteKept
 unfolding finishedPlane restored
@@ -104,10 +100,13 @@ module _ (p : Picture) where
       (ap (suppressed (p .settings .pcm-loop-filter-disabled)) (cell-turned (p .cells) _) ∙ mark-same _ _)
 
   finished-same : finished p ≡ finished (turned p)
-  finished-same = finished-alike p (p .cells) (p .slices) (turnedFrom 0 (p .cells)) (p .slices) segments-alike marks-alike
+  finished-same =
+      finished-alike p (p .cells) (p .slices) (turnedFrom 0 (p .cells)) (p .slices) segments-alike marks-alike
 
 pub palette-as-lossless : PaletteAsLossless
 palette-as-lossless = record {
+  none-left = λ p n.
+      ap (λ (c : Cell). bit (c .flags) 4) (cell-turned (p .cells) n) ∙ turns (cellAt (p .cells) n .flags) .fourth;
   same-verdict = answered;
   same-outputs = λ p lent. outputs-alike p (turned p) lent (answered p lent) (λ _. finished-same p);
 }

@@ -1,25 +1,19 @@
 -- Document 02, C-19: "Bit 4 of the cell flags now marks a cell as one, held in luma and chroma at either setting of the
--- PCM switch." A palette cell is one with flag bit 4; document 01's held is suppressed here. `verdict` and `outputs` are
--- the answer and the planes that the stage's contract names: what is said of them here is said of the stage.
+-- PCM switch." A palette cell is one with flag bit 4; document 01's held is suppressed here. `verdict` and `outputs`
+-- are the answer and the planes that the stage's contract names, and the planes are made of `finishedPlane` where the
+-- picture is accepted: what is said of them here is said of the stage.
 use Prim.Native.Nat.{ℕ, suc, _+_, _-_, _%_}
 use mathlib.Core.Path.{_≡_}
-use mathlib.Core.Bool.{true, cond}
+use mathlib.Core.Bool.{true, false, cond}
 use mathlib.Core.List.{List, [], _∷_}
 use lib.Dec.{eqb}
 use Rattle.filter.specs.Finished.{finishedPlane, outputs}
 use Rattle.picture.specs.Causes.{verdict}
-use Rattle.picture.specs.Cell.{bit, cellOfSample}
-use Rattle.picture.specs.declared.Cell.{Cell}
-use Rattle.picture.specs.Picture.{Picture, Planes, original}
-use Rattle.picture.specs.Scale.{Component, samplingAcross, samplingDown, toLuma}
+use Rattle.picture.specs.Cell.{bit, cellAt, cellBeneath}
+use Rattle.picture.specs.Picture.{Picture, Planes, original, withLists}
+use Rattle.picture.specs.Scale.{Component}
 
 -- ---- a palette cell keeps its samples
-
--- the cell of a component's sample; document 01: "A chroma sample belongs to the cell of its scaled luma position."
-abbrev pub cellBeneath : Picture → Component → ℕ → ℕ → Cell
-cellBeneath p c x y =
-    cellOfSample p (toLuma (samplingAcross (p .settings .format) c) x)
-    (toLuma (samplingDown (p .settings .format) c) y)
 
 -- "in luma and chroma at either setting of the PCM switch": of any component and under any settings, the samples of a
 -- palette cell are the original ones in the end
@@ -47,20 +41,12 @@ turnedFrom k (byte ∷ rest) = turnedByte k byte ∷ turnedFrom (suc k) rest
 
 -- the same picture, bit 4 turned into bit 2 in every cell
 abbrev pub turned : Picture → Picture
-turned p = record {
-  width = p .width;
-  height = p .height;
-  settings = p .settings;
-  originals = p .originals;
-  cells = turnedFrom 0 (p .cells);
-  slices = p .slices;
-  columns = p .columns;
-  rows = p .rows;
-}
+turned p = withLists (turnedFrom 0 (p .cells)) (p .slices) p
 
--- Every picture has the answer and the output planes of the turned one, which has no palette cell. No picture is left
+-- The turned picture has no palette cell, and every picture has its answer and its output planes. No picture is left
 -- out: one that is refused is refused either way, with the same number and place. `lent` are the output planes, holding
 -- anything.
 pub record PaletteAsLossless : Type 0 where
+  pub none-left : (p : Picture) (n : ℕ) → bit (cellAt (turned p .cells) n .flags) 4 ≡ false
   pub same-verdict : (p : Picture) (lent : Planes) → verdict p lent ≡ verdict (turned p) lent
   pub same-outputs : (p : Picture) (lent : Planes) → outputs p lent ≡ outputs (turned p) lent

@@ -1,1 +1,2 @@
-// Nothing to run: what a palette cell is are theorems about the definitions that the stage's contract cites.
+// Nothing to run: that palette cells keep their samples, and are as good as lossless ones, are theorems about the
+// definitions that the stage's contract cites.

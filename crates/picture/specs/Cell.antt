@@ -1,7 +1,7 @@
 -- Document 01: "Cell records, 8 bytes, one for each 4 by 4 luma block, row by row, no header: QP plus 64; flags (bit
 -- 0 vertical edge on the left side, bit 1 horizontal edge on the top side, bit 2 lossless, bit 3 PCM, others 0);
--- vertical bS; horizontal bS; slice number, two bytes, low first; two zero bytes." Document 02, C-19: "Bit 4 of the cell
--- flags now marks a cell as one", a palette unit.
+-- vertical bS; horizontal bS; slice number, two bytes, low first; two zero bytes." Document 02, C-19: "Bit 4 of the
+-- cell flags now marks a cell as one", a palette unit.
 use Prim.Native.Nat.{ℕ, _+_, _*_, _/_, _%_, _^_}
 use mathlib.Core.Bool.{Bool, _&&_, _||_}
 use mathlib.Core.List.{List}
@@ -11,7 +11,7 @@ use lib.IntN.{ℤ}
 use Rattle.ints.specs.Int.{_⊖_}
 use Rattle.picture.specs.declared.Cell.{Cell}
 use Rattle.picture.specs.Picture.{Picture}
-use Rattle.picture.specs.Scale.{cellOf}
+use Rattle.picture.specs.Scale.{Component, samplingAcross, samplingDown, toLuma, cellOf}
 
 -- byte b of cell record n
 abbrev pub cellByte : List ℕ → ℕ → ℕ → ℕ
@@ -39,6 +39,12 @@ cellCount p = cellOf (p .width) * cellOf (p .height)
 abbrev pub cellOfSample : Picture → ℕ → ℕ → Cell
 cellOfSample p x y = cellAt (p .cells) (cellNumber (cellOf (p .width)) (cellOf x) (cellOf y))
 
+-- the cell of a component's sample; document 01: "A chroma sample belongs to the cell of its scaled luma position."
+abbrev pub cellBeneath : Picture → Component → ℕ → ℕ → Cell
+cellBeneath p c x y =
+    cellOfSample p (toLuma (samplingAcross (p .settings .format) c) x)
+    (toLuma (samplingDown (p .settings .format) c) y)
+
 abbrev pub qpOf : Cell → ℤ
 qpOf c = c .qp ⊖ 64
 
@@ -46,8 +52,9 @@ qpOf c = c .qp ⊖ 64
 abbrev pub bit : ℕ → ℕ → Bool
 bit flags k = eqb (flags / 2 ^ k % 2) 1
 
--- Document 01: "A cell is held when lossless, or PCM with the switch on." Document 02, C-19, of a palette cell: "held in
--- luma and chroma at either setting of the PCM switch". The Rust's word for held is suppressed; the switch comes first.
+-- Document 01: "A cell is held when lossless, or PCM with the switch on." Document 02, C-19, of a palette cell: "held
+-- in luma and chroma at either setting of the PCM switch". The Rust's word for held is suppressed; the switch comes
+-- first.
 unfoldable pub suppressed : Bool → Cell → Bool
 suppressed pcm-loop-filter-disabled c =
     bit (c .flags) 2 || (bit (c .flags) 3 && pcm-loop-filter-disabled) || bit (c .flags) 4

@@ -36,6 +36,19 @@ pub record Picture : Type 0 where
   pub columns : List ℕ
   pub rows : List ℕ
 
+-- the same picture with other cell and slice lists
+abbrev pub withLists : List ℕ → List ℕ → Picture → Picture
+withLists cells slices p = record {
+  width = p .width;
+  height = p .height;
+  settings = p .settings;
+  originals = p .originals;
+  cells = cells;
+  slices = slices;
+  columns = p .columns;
+  rows = p .rows;
+}
+
 abbrev pub planeOf : Planes → Component → List ℕ
 planeOf p Y = p .y
 planeOf p Cb = p .cb

@@ -1,5 +1,5 @@
-// Restoration: after each pass a suppressed cell, one that is lossless or PCM with the switch on, has its original
-// samples again.
+// Restoration: after each pass a suppressed cell, one that is lossless, palette or PCM with the switch on, has its
+// original samples again.
 mod marks;
 mod plane;
 mod rows;
