@@ -27,8 +27,8 @@ pub fn slice_gate(slices: &[u8], p: Cell, q: Cell) -> SliceGate
     SliceGate::Closed
 }
 
-// sample_suppressed of the Rust, and palette cells, which it has not: a lossless cell, a PCM one with the switch on or a
-// palette one keeps its original samples, in luma and in chroma. Its edges stay open.
+// sample_suppressed of the Rust, and palette cells, which it has not: a lossless cell, a PCM one with the switch on or
+// a palette one keeps its original samples, in luma and in chroma. Its edges stay open.
 pub fn is_suppressed(pcm: bool, c: Cell) -> bool
     ensures { λ r. ⌜ r ≡ suppressed pcm c ⌝ }
 {
