@@ -38,36 +38,42 @@ unfolding finishedBy finishedPlane passOf restored
 finished-by p c = refl
 
 module _ (p : Picture) (cells slices cells′ slices′ : List ℕ) where
+  abbrev one : Picture
+  one = withLists cells slices p
+
+  abbrev other : Picture
+  other = withLists cells′ slices′ p
+
   -- nothing but these looks at the two lists
   lists-unseen : (c : Component) (by : Direction → ℕ → ℕ → Option Filter) (kept : ℕ → ℕ → Bool)
-      → finishedBy (withLists cells slices p) c by kept ≡ finishedBy (withLists cells′ slices′ p) c by kept
+      → finishedBy one c by kept ≡ finishedBy other c by kept
   unfolding finishedBy
   lists-unseen c by kept = refl
 
   abbrev pub Alike : Type 0
   Alike = (c : Component) (d : Direction) (a b : Position)
-      → segmentAt (withLists cells slices p) c d a b ≡ segmentAt (withLists cells′ slices′ p) c d a b
+      → segmentAt one c d a b ≡ segmentAt other c d a b
 
   abbrev pub SameMarks : Type 0
-  SameMarks = (c : Component) (x y : ℕ) → mark (withLists cells slices p) c x y ≡ mark (withLists cells′ slices′ p) c x y
+  SameMarks = (c : Component) (x y : ℕ) → mark one c x y ≡ mark other c x y
 
   module _ (alike : Alike) (marked : SameMarks) where
-    plane-alike : (c : Component) → finishedPlane (withLists cells slices p) c ≡ finishedPlane (withLists cells′ slices′ p) c
+    plane-alike : (c : Component) → finishedPlane one c ≡ finishedPlane other c
     plane-alike c =
-        finished-by (withLists cells slices p) c
-        ∙ (λ i. finishedBy (withLists cells slices p) c (λ d e line. at d e line i) (λ x y. marked c x y i))
-        ∙ lists-unseen c (segment (withLists cells′ slices′ p) c) (mark (withLists cells′ slices′ p) c)
-        ∙ sym (finished-by (withLists cells′ slices′ p) c)
+        finished-by one c
+        ∙ (λ i. finishedBy one c (λ d e line. at d e line i) (λ x y. marked c x y i))
+        ∙ lists-unseen c (segment other c) (mark other c)
+        ∙ sym (finished-by other c)
       where
-        at : (d : Direction) (e line : ℕ) → segment (withLists cells slices p) c d e line ≡ segment (withLists cells′ slices′ p) c d e line
+        at : (d : Direction) (e line : ℕ) → segment one c d e line ≡ segment other c d e line
         at d e line = alike c d _ _
 
     list-alike : (c : Component)
-        → table (planeWidth p c) (planeHeight p c) (finishedPlane (withLists cells slices p) c)
-        ≡ table (planeWidth p c) (planeHeight p c) (finishedPlane (withLists cells′ slices′ p) c)
+        → table (planeWidth p c) (planeHeight p c) (finishedPlane one c)
+        ≡ table (planeWidth p c) (planeHeight p c) (finishedPlane other c)
     list-alike c = ap (table (planeWidth p c) (planeHeight p c)) (plane-alike c)
 
-    pub finished-alike : finished (withLists cells slices p) ≡ finished (withLists cells′ slices′ p)
+    pub finished-alike : finished one ≡ finished other
     unfolding finished
     finished-alike = λ i. record { y = list-alike Y i; cb = list-alike Cb i; cr = list-alike Cr i }
 

@@ -38,6 +38,22 @@ digits f = record {
   are = omega arith;
 }
 
+-- the same flags with bit 4 clear, and bit 2 as it is given
+cleared : {f : ℕ} (s : Digits f) (two g : ℕ) → two ≤ 1 → g ≡ 32 * s .above + 8 * s .three + 4 * two + s .below
+    → Digits g
+cleared s two g two-most are = record {
+  above = s .above;
+  four = 0;
+  three = s .three;
+  two = two;
+  below = s .below;
+  four-most = omega arith;
+  three-most = s .three-most;
+  two-most = two-most;
+  below-most = s .below-most;
+  are = omega arith;
+}
+
 -- what is above the last bit does not show in it
 last : (q r : ℕ) {n : ℕ} → n ≡ 2 * q + r → n % 2 ≡ r % 2
 last q r e = omega arith
@@ -93,6 +109,7 @@ same-large f g up down = go (either 31 f)
 
 -- with bit 4, they have bit 2 in its place
 turning : (f g : ℕ) (s : Digits f) → s .four ≡ 1 → g ≡ 32 * s .above + 8 * s .three + 4 + s .below → Turns f g
+unfolding cleared
 turning f g s four is = record {
   zeroth = same-bit (zero-is g t ∙ sym (zero-is f s));
   first = same-bit (one-is g t ∙ sym (one-is f s));
@@ -106,20 +123,10 @@ turning f g s four is = record {
 }
   where
     t : Digits g
-    t = record {
-      above = s .above;
-      four = 0;
-      three = s .three;
-      two = 1;
-      below = s .below;
-      four-most = omega arith;
-      three-most = s .three-most;
-      two-most = omega arith;
-      below-most = s .below-most;
-      are = omega arith;
-    }
+    t = cleared s 1 g (omega arith) (omega arith)
 
 pub turns : (f : ℕ) → Turns f (losslessFor f)
+unfolding cleared
 turns f = go (bit f 4) refl
   where
     go : (b : Bool) → bit f 4 ≡ b → Turns f (losslessFor f)
@@ -134,18 +141,7 @@ turns f = go (bit f 4) refl
 
         -- without bit 4
         rest : Digits (f - 16)
-        rest = record {
-          above = s .above;
-          four = 0;
-          three = s .three;
-          two = s .two;
-          below = s .below;
-          four-most = omega arith;
-          three-most = s .three-most;
-          two-most = s .two-most;
-          below-most = s .below-most;
-          are = omega (arith, four, s .are);
-        }
+        rest = cleared s (s .two) (f - 16) (s .two-most) (omega (arith, four, s .are))
 
         lossless : (b : Bool) → bit (f - 16) 2 ≡ b
             → withLossless (f - 16) ≡ 32 * s .above + 8 * s .three + 4 + s .below
