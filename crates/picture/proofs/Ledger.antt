@@ -58,6 +58,15 @@ pub none-part : (a b : List Bool) → NoneOf (a ++ b) → NoneOf a × NoneOf b
 none-part [] b h = (tt, h)
 none-part (x ∷ r) b h = let (l, k) = none-part r b (h .1) in ((h .0, l), k)
 
+-- tests that do not hold add nothing, before others or after them
+pub none-first : (a b : List Bool) → NoneOf a → anyOf (a ++ b) ≡ anyOf b
+none-first [] b h = refl
+none-first (x ∷ r) b h = rw (h .0) (none-first r b (h .1))
+
+pub none-last : (a b : List Bool) → NoneOf b → anyOf (a ++ b) ≡ anyOf a
+none-last [] b h = none-in b h
+none-last (x ∷ r) b h = ap (λ (rest : Bool). cond x true rest) (none-last r b h)
+
 -- ---- the first bad entry of n from k on
 
 -- where entry k + i stands before it, entry k is good
@@ -104,6 +113,19 @@ module _ (bad : ℕ → Bool) where
       first-at (suc k) n i (omega arith) (λ j hj. ap bad (omega arith) ∙ h (suc j) (omega arith))
       (ap bad (omega arith) ∙ b) in
       rw good (next ∙ omega arith)
+
+-- it is the same where the same entries are bad
+first-same : (f g : ℕ → Bool) (k n : ℕ) → ((i : ℕ) → i < n → f (k + i) ≡ g (k + i)) → firstBad f k n ≡ firstBad g k n
+first-same f g k zero h = refl
+first-same f g k (suc n) h =
+    let here : k ≡ k + 0 = omega arith in
+    let first : f k ≡ g k = ap f here ∙ h 0 (omega arith) ∙ ap g (sym here) in
+    λ i. cond (first i) k (first-same f g (suc k) n next i)
+  where
+    next : (i : ℕ) → i < n → f (suc k + i) ≡ g (suc k + i)
+    next i hi =
+        let there : suc k + i ≡ k + suc i = omega arith in
+        ap f there ∙ h (suc i) (omega arith) ∙ ap g (sym there)
 
 -- ---- the place of a cause
 
@@ -181,7 +203,26 @@ module _ (c d : Cause) where
           let hd : Good d = λ k hk. place-good d k (omega arith) in
           place-end (andThen c d) (then-in hc hd) ∙ omega (arith, place-end d hd)
 
+-- two causes that find the same things bad, among as many, have one place
+pub place-same : (c d : Cause) → c .count ≡ d .count → ((k : ℕ) → k < c .count → c .bad k ≡ d .bad k)
+    → placeOf c ≡ placeOf d
+place-same c d count h =
+    first-same (c .bad) (d .bad) 0 (c .count) (λ i hi. ap (c .bad) (omega arith) ∙ h i hi ∙ ap (d .bad) (omega arith))
+    ∙ ap (firstBad (d .bad) 0) count
+
 -- ---- a list of entries
+
+-- what comes of an entry, where `rest` comes of those after it
+abbrev answered : Entry → Verdict → Verdict
+answered e rest =
+    cond (ltb (placeOf (e .cause)) (e .cause .count)) (record { number = e .number; place = placeOf (e .cause) }) rest
+
+-- one cause for another of the same count and place
+pub exchanged : (before : List Entry) (n : ℕ) (c d : Cause) (after : List Entry) → c .count ≡ d .count
+    → placeOf c ≡ placeOf d → firstOf (before ++ (entry n c ∷ after)) ≡ firstOf (before ++ (entry n d ∷ after))
+exchanged [] n c d after count place = λ i.
+    cond (ltb (place i) (count i)) (record { number = n; place = place i }) (firstOf after)
+exchanged (e ∷ before) n c d after count place = ap (answered e) (exchanged before n c d after count place)
 
 abbrev pub AllGood : List Entry → Type 0
 AllGood [] = Unit {0}
@@ -195,6 +236,15 @@ AllNumbered (e ∷ r) = (0 < e .number) × AllNumbered r
 pub good-in : (l : List Entry) → AllGood l → firstOf l ≡ acceptance
 good-in [] h = refl
 good-in (e ∷ r) h = passed (e .cause) (e .number) r (h .0) ∙ good-in r (h .1)
+
+-- entries that do not apply are passed over, before others or after them
+pub first-passed : (before after : List Entry) → AllGood before → firstOf (before ++ after) ≡ firstOf after
+first-passed [] after h = refl
+first-passed (e ∷ r) after h = passed (e .cause) (e .number) (r ++ after) (h .0) ∙ first-passed r after (h .1)
+
+pub last-passed : (before after : List Entry) → AllGood after → firstOf (before ++ after) ≡ firstOf before
+last-passed [] after h = good-in after h
+last-passed (e ∷ before) after h = ap (answered e) (last-passed before after h)
 
 skipped : (t : Bool) (n p : ℕ) (rest : Verdict) → 0 < n → cond t (record { number = n; place = p }) rest .number ≡ 0
     → (t ≡ false) × (rest .number ≡ 0)

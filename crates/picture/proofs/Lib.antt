@@ -4,3 +4,4 @@ pub mod Index
 pub mod Ledger
 pub mod Records
 pub mod Scale
+pub mod Tables

@@ -1,27 +1,15 @@
 -- A list that holds a plane is that plane's table; and a pass on the result of a pass.
-use Prim.Native.Nat.{ℕ, zero, suc, _+_, _*_, _/_, _%_, _<_}
-use mathlib.Core.Path.{_≡_, refl, sym, ap, ap₂, _∙_}
+use Prim.Native.Nat.{ℕ, zero, suc, _*_, _/_, _%_, _<_}
+use mathlib.Core.Path.{_≡_, sym, ap, _∙_}
 use mathlib.Core.List.{List}
 use native.Mathlib.Nat.{div-add-mod', mod-lt, div-lt-iff-lt-mul, mul-comm}
 use native.Mathlib.Omega.{arith}
 use lib.ListN.{length, getD}
 use lib.Seq.{ext-getD}
-use Rattle.picture.specs.Plane.{Plane, at, tabulate, table}
+use Rattle.picture.specs.Plane.{Plane, at, table}
+use Rattle.picture.proofs.Tables.{getD-tabulate, length-table}
 use Rattle.planes.specs.Rows.{Holds}
 use Rattle.planes.proofs.Bands.{Local}
-
-length-tabulate : (n : ℕ) (f : ℕ → ℕ) → length (tabulate n f) ≡ n
-length-tabulate zero f = refl
-length-tabulate (suc n) f = ap suc (length-tabulate n (λ k. f (suc k)))
-
-pub getD-tabulate : (n : ℕ) (f : ℕ → ℕ) (k : ℕ) → k < n → getD (tabulate n f) k 0 ≡ f k
-getD-tabulate zero f k h = absurd (omega arith)
-getD-tabulate (suc n) f zero h = refl
-getD-tabulate (suc n) f (suc k) h = getD-tabulate n (λ k. f (suc k)) k (omega arith)
-
-pub length-table : (w h : ℕ) (G : Plane) → length (table w h G) ≡ w * h
-unfolding table
-length-table w h G = length-tabulate (w * h) (λ k. G (k % w) (k / w))
 
 -- index k of a list of rows is column k % w of row k / w
 by-rows : (w h : ℕ) (list : List ℕ) (G : Plane) → 0 < w → Holds w h list G → (k : ℕ) → k < w * h

@@ -14,10 +14,10 @@ use Rattle.picture.specs.Ledger.{acceptance}
 use Rattle.picture.specs.Picture.{Picture, Planes, planeOf, planeWidth, planeHeight}
 use Rattle.picture.specs.Plane.{at, table}
 use Rattle.picture.specs.Scale.{Component, Y, Cb, Cr}
+use Rattle.picture.proofs.Tables.{length-table}
 use Rattle.tiles_apart.proofs.Count.{TileAgrees, none-differ, all-agree}
 use Rattle.tiles_apart.proofs.Local.{local}
 use Rattle.tiles_apart.proofs.Parts.{crop-at, crop-length}
-use Rattle.planes.proofs.Tables.{length-table}
 use Rattle.tiles_apart.proofs.Tables.{at-table, ext-at}
 use Rattle.tiles_apart.proofs.Tile.{part-inside, plane-of-tile}
 

@@ -7,7 +7,7 @@ use lib.Arith.{digits-div, digits-mod}
 use lib.ListN.{length}
 use lib.Seq.{ext-getD}
 use Rattle.picture.specs.Plane.{Plane, at, table}
-use Rattle.planes.proofs.Tables.{getD-tabulate}
+use Rattle.picture.proofs.Tables.{getD-tabulate}
 use Rattle.tiles_apart.proofs.Parts.{place, split, at-split, within}
 
 module _ (w h : ℕ) (P : Plane) where
