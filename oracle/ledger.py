@@ -1,7 +1,8 @@
 """The refusal ledger of document 01, in Python: which number and place a picture is answered with.
 
-Written from document 01, and C-19 of document 02 for flag bit 4, alone. It shares nothing with the stage, nor with the
-customer's Rust, which refuses nothing. `verdict` takes a Picture of picture_records.py: any fields at all.
+Written from document 01 alone, and of document 02 C-19 for flag bit 4 and C-14 for strengths that need an edge. It shares
+nothing with the stage, nor with the customer's Rust, which refuses nothing. `verdict` takes a Picture of picture_records.py:
+any fields at all.
 """
 
 # Chroma format: by what the width and the height of the luma plane are divided. Format 0 has empty chroma planes.
@@ -52,12 +53,18 @@ def first_bad_start(starts, samples, log2_ctb):
     return None
 
 
-def cell_allowed(record, luma_depth, slice_count):
+def ranges_allowed(record, luma_depth, slice_count):
     qp, flags, bs_v, bs_h, low, high, zero_6, zero_7 = record
     return (-6 * (luma_depth - 8) <= qp - 64 <= 51
             and flags < 32 and bs_v <= 2 and bs_h <= 2
             and low + 256 * high < slice_count
             and zero_6 == 0 and zero_7 == 0)
+
+
+def strengths_allowed(record):
+    """Document 02's C-14: a vertical bS above 0 needs flag bit 0, a horizontal one bit 1."""
+    _, flags, bs_v, bs_h, *_ = record
+    return (bs_v == 0 or flags & 1 != 0) and (bs_h == 0 or flags & 2 != 0)
 
 
 def records(data, size):
@@ -69,8 +76,8 @@ def first_bad(allowed):
     return next((place for place, good in enumerate(allowed) if not good), None)
 
 
-def verdict(picture):
-    """Number and place; (0, 0) for an accepted picture."""
+def verdict(picture, rule=True):
+    """Number and place; (0, 0) for an accepted picture. Without C-14's rule they are those of before the request."""
     if not size_allowed(picture.width) or not size_allowed(picture.height):
         return 1, 0
     if picture.format > 3:
@@ -96,7 +103,7 @@ def verdict(picture):
         return 8, len(picture.columns) + row
 
     slice_count = max(1, len(picture.slices) // SLICE_BYTES)
-    place = first_bad(cell_allowed(record, picture.luma_depth, slice_count)
+    place = first_bad(ranges_allowed(record, picture.luma_depth, slice_count) and (strengths_allowed(record) or not rule)
                       for record in records(picture.cells, CELL_BYTES))
     if place is not None:
         return 9, place

@@ -1,13 +1,15 @@
 """A stored picture with what is expected of it."""
 
-from picture_records import HORIZONTAL, PLAIN_SLICE, VERTICAL, random_picture
+from picture_records import HORIZONTAL, PLAIN_SLICE, VERTICAL, check_unconverted, random_picture
 
 
 class Case:
-    """A picture with a name, the number and place expected, and a check of the output planes."""
+    """A picture with a name, the number and place expected, and a check of the output planes. `before` is the picture of a
+    converted case as it was stored before."""
 
     def __init__(self, name, picture, number=0, place=0, check=None):
         self.name, self.picture, self.answer, self.check = name, picture, (number, place), check
+        self.before = None
 
     def look_at(self, planes):
         """Stops where the output planes are not what the case says they are."""
@@ -23,6 +25,22 @@ def outright(case):
     if not case.picture.slices:
         case.picture = case.picture.with_slices(PLAIN_SLICE)
     return case
+
+
+def converted(case):
+    """Converts an accepted picture with a strength that has no edge (document 02, C-14), so that the output stays."""
+    if case.answer == (0, 0) and not case.picture.in_rule():
+        case.before, case.picture = case.picture, case.picture.converted()
+        case.name += "; converted"
+    return case
+
+
+def check_converted(accepted):
+    """`accepted`: cases with their expected planes. Those of a converted picture are what the oracles leave of the picture
+    before; how many there are."""
+    pairs = [(case.before, planes) for case, planes in accepted if case.before]
+    check_unconverted(pairs)
+    return len(pairs)
 
 
 def moves(case_picture):

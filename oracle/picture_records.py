@@ -2,8 +2,9 @@
 """Pictures for the stage, as records, and the text that is expected of them.
 
     picture_records.py random COUNT SEED              writes COUNT random records to standard output, and after each its
-                                                      other forms: with the record that an empty slice list stands for,
-                                                      and with lossless cells for palette cells
+                                                      other forms: without the strengths that have no edge, with the
+                                                      record that an empty slice list stands for, and with lossless
+                                                      cells for palette cells
     picture_records.py expect                         reads records, writes the expected text
     picture_records.py compare INPUT EXPECTED ACTUAL  tallies the lines; status 1 at a difference
 
@@ -17,7 +18,8 @@ from collections import Counter
 
 sys.dont_write_bytecode = True
 
-from ledger import SCALES, chroma_length, verdict
+import conversion
+from ledger import CELL_BYTES, SCALES, chroma_length, verdict
 from records import Random
 from stored import run_oracle
 
@@ -72,6 +74,14 @@ class Picture:
         cells = bytearray(self.cells)
         cells[1::8] = bytes(flags & ~PALETTE | LOSSLESS if flags & PALETTE else flags for flags in cells[1::8])
         return self.with_fields(cells=cells)
+
+    def in_rule(self):
+        """Each bS above 0 has its edge flag (document 02, C-14)."""
+        return conversion.first_out_of_rule(self.cells) is None
+
+    def converted(self):
+        """The same picture with its cell list converted: it is filtered alike (document 02, C-14)."""
+        return self.with_fields(cells=conversion.converted(self.cells))
 
     def plane_width(self, plane):
         return self.width if plane == 0 else self.width // SCALES[self.format][0]
@@ -196,6 +206,21 @@ def check_fallback(pictures, planes):
     assert [own for _, own in empty] == again, "the Rust's fallback is another record than the one that is passed"
 
 
+def check_unconverted(pairs):
+    """`pairs`: pictures accepted before document 02's C-14, and the planes expected of them converted. Those are what the Rust
+    leaves of the pictures as they are, or the second program where it decides."""
+    filtered, *_ = decided([picture for picture, _ in pairs])
+    for number, ((_, planes), own) in enumerate(zip(pairs, filtered), 1):
+        assert own == planes, f"unconverted picture {number} of {len(pairs)} is filtered otherwise than converted"
+
+
+def converted_after(pictures):
+    """The numbers, from 0, of pictures accepted before document 02's C-14 whose converted form comes next."""
+    return [number for number, (picture, after) in enumerate(zip(pictures, pictures[1:]))
+            if picture and after and not picture.in_rule() and verdict(picture, rule=False) == (0, 0)
+            and after.pack() == picture.converted().pack()]
+
+
 def expected(pictures):
     """For each picture (None for a short record) its answer, output planes and line; and what was counted."""
     answers = [None if picture is None else verdict(picture) for picture in pictures]
@@ -209,7 +234,11 @@ def expected(pictures):
         planes = next(filtered) if answer == (0, 0) else [[JUNK] * length for length in picture.out_lengths]
         found.append((answer, planes, line(number, answer, planes)))
     palette = sum(answer == (0, 0) and picture.has_palette() for picture, answer in zip(pictures, answers))
-    return found, f"{counts}; left to the second program: {sum(left)}; with palette cells: {palette}"
+    unconverted = converted_after(pictures)
+    assert all(found[number + 1][0] == (0, 0) for number in unconverted), "a converted picture is refused"
+    check_unconverted([(pictures[number], found[number + 1][1]) for number in unconverted])
+    return found, (f"{counts}; left to the second program: {sum(left)}; with palette cells: {palette};"
+                   f" held to the picture before, unconverted: {len(unconverted)}")
 
 
 def tally(lines):
@@ -297,7 +326,14 @@ def random_picture(random, largest_width=64, largest_height=48, **given):
 
 def damage(random, picture):
     """One change to any field, most often past the end of its range."""
-    kind = random.below(16)
+    kind = random.below(17)
+    if kind < 8:
+        damage_setting(random, picture, kind)
+    else:
+        damage_list(random, picture, kind)
+
+
+def damage_setting(random, picture, kind):
     if kind == 0:
         picture.width = random.pick(0, 4, 12, picture.width + 8, max(0, picture.width - 8), 8200)
     elif kind == 1:
@@ -312,9 +348,12 @@ def damage(random, picture):
         picture.log2_ctb = random.pick(3, 7, 0, random.between(4, 6))
     elif kind == 6:
         picture.cb_offset = random.pick(-13, 13, 12)
-    elif kind == 7:
+    else:
         picture.cr_offset = random.pick(-13, 13, -12)
-    elif kind == 8:
+
+
+def damage_list(random, picture, kind):
+    if kind == 8:
         plane = random.pick(*picture.planes)
         plane.append(0) if random.chance(50) or not plane else plane.pop()
     elif kind == 9:
@@ -333,10 +372,22 @@ def damage(random, picture):
             starts[random.below(len(starts))] = random.pick(0, 1, 2, 5, 65535)
     elif kind == 14 and picture.cells:
         picture.cells[random.below(len(picture.cells))] = random.pick(0, 1, 2, 3, 16, 63, 116, 255)
+    elif kind == 15 and picture.cells:
+        part_strength(random, picture)
     else:
         plane = random.pick(*picture.planes)
         if plane:
             plane[random.below(len(plane))] = random.pick(255, 256, 1023, 1024, 32767, 32768, 65535)
+
+
+def part_strength(random, picture):
+    """Sets a strength of one cell, or clears its edge flag, or both."""
+    at = CELL_BYTES * random.below(len(picture.cells) // CELL_BYTES)
+    byte, flag = random.pick((2, VERTICAL), (3, HORIZONTAL))
+    if random.chance(70):
+        picture.cells[at + byte] = random.pick(1, 2)
+    if random.chance(70):
+        picture.cells[at + 1] &= ~flag
 
 
 def mark_palette(random, picture):
@@ -346,9 +397,12 @@ def mark_palette(random, picture):
 
 
 def forms(picture):
-    """A picture and its other forms, each answered as the one before: with the record that an empty slice list stands for, and
-    with lossless cells for palette cells."""
+    """A picture and its other forms: converted where a strength has no edge; and, each answered as the one before, with the
+    record that an empty slice list stands for, and with lossless cells for palette cells."""
     yield picture
+    if not picture.in_rule():
+        picture = picture.converted()
+        yield picture
     if not picture.slices:
         picture = picture.with_slices(DEFAULT_SLICE)
         yield picture
@@ -357,39 +411,57 @@ def forms(picture):
 
 
 def random_input(count, seed):
-    """Records, one in four with palette marks, some or many, three in ten damaged once to three times; some damage is none."""
+    """Records, one in four with palette marks, some or many, three in ten damaged once to three times; some damage is none. About
+    half of them have strengths without an edge when they are drawn. One in two of those is converted at once, before any
+    damage; the other comes as it is, and then converted."""
     random = Random(seed)
     for _ in range(count):
         picture = random_picture(random, *random.pick((64, 48), (64, 48), (64, 48), (64, 48), (24, 24), (200, 136)))
         if random.chance(25):
             mark_palette(random, picture)
+        if random.chance(50):
+            picture = picture.converted()
         if random.chance(30):
             for _ in range(random.pick(1, 1, 1, 2, 3)):
                 damage(random, picture)
         yield from (form.pack() for form in forms(picture))
 
 
-def check_forms(data, given):
-    """The program answers each form of a picture as the one before; how many have an empty slice list, and how many palette
-    cells beside slice records."""
-    pictures = [picture for picture, _ in unpack(data)]
-    empty = [number for number, picture in enumerate(pictures) if picture and not picture.slices]
-    palette = [number for number, picture in enumerate(pictures) if picture and picture.slices and picture.has_palette()]
+def check_forms(pictures, given):
+    """The program answers each form of a picture as the one before, but for the conversion; how many have an empty slice list,
+    and how many palette cells beside slice records."""
+    rest = [(number, picture) for number, picture in enumerate(pictures) if picture and picture.in_rule()]
+    empty = [number for number, picture in rest if not picture.slices]
+    palette = [number for number, picture in rest if picture.slices and picture.has_palette()]
     for number in empty + palette:
         own, again = (text.split()[1:] for text in given[number:number + 2])
         assert own == again, f"records {number + 1} and {number + 2}, two forms of one picture, are answered otherwise"
-    return len(empty), len(palette)
+    return (f"empty slice lists, each answered as the record: {len(empty)}; pictures with palette cells, each answered as with"
+            f" lossless ones: {len(palette)}")
+
+
+def check_conversions(pictures, given):
+    """The program refuses each picture with a strength that has no edge, and accepts it converted where it was accepted before
+    document 02's C-14; how many there are."""
+    answers = [text.split()[1:3] for text in given]
+    edgeless = [number for number, picture in enumerate(pictures) if picture and not picture.in_rule()]
+    assert all(1 <= int(answers[number][0]) <= 9 for number in edgeless), "a strength without an edge is not refused"
+    unconverted = converted_after(pictures)
+    for number in unconverted:
+        place = str(conversion.first_out_of_rule(pictures[number].cells))
+        assert answers[number:number + 2] == [["9", place], ["0", "0"]], f"records {number + 1} and {number + 2}"
+    return (f"pictures with a strength that has no edge, each refused: {len(edgeless)}, of which accepted before, and accepted"
+            f" converted: {len(unconverted)}")
 
 
 def compare(input_path, expected_path, actual_path):
     data, expected, actual = (open(path, "rb").read() for path in (input_path, expected_path, actual_path))
     wanted, given = (text.decode(errors="replace").splitlines(keepends=True) for text in (expected, actual))
-    assert len(wanted) == sum(1 for _ in unpack(data)), "there is no line for each picture"
+    pictures = [picture for picture, _ in unpack(data)]
+    assert len(wanted) == len(pictures), "there is no line for each picture"
     print(f"{len(wanted)} pictures; {tally(wanted)}")
     if wanted == given:
-        empty, palette = check_forms(data, given)
-        print(f"no difference; empty slice lists, each answered as the record: {empty}; pictures with palette cells, each answered"
-              f" as with lossless ones: {palette}")
+        print(f"no difference; {check_forms(pictures, given)}; {check_conversions(pictures, given)}")
         return 0
     number = next((i for i, pair in enumerate(zip(wanted, given)) if pair[0] != pair[1]),
                   min(len(wanted), len(given)))

@@ -13,11 +13,12 @@ import sys
 
 sys.dont_write_bytecode = True
 
+import edgeless_pictures
 import empty_list_pictures
 import palette_pictures
 from chroma_pictures import averages, check_parting, far_ends, parting, qpc_ends, tc_ends
 from ledger import SCALES
-from picture_case import Case, edges, marked_picture, moves, outright, same_as, stays
+from picture_case import Case, check_converted, converted, edges, marked_picture, moves, outright, same_as, stays
 from picture_records import (HORIZONTAL, LOSSLESS, PALETTE, PCM, PLAIN_SLICE, VERTICAL, Picture, expected, random_picture,
                              tally, unpack)
 from records import Random
@@ -473,6 +474,21 @@ def empty_lists():
     yield from empty_list_pictures.refusals(FAULTS, colour)
 
 
+def crossed():
+    """16 by 16 with every edge set, and steps at column 8 and row 8."""
+    return step_at(8, 8, width=16, height=16)
+
+
+def edgeless(cases):
+    """`cases`: those before, the converted ones among them."""
+    yield from edgeless_pictures.combinations(crossed)
+    yield from edgeless_pictures.marks(crossed)
+    yield from edgeless_pictures.far()
+    yield from edgeless_pictures.past_range(crossed)
+    yield from edgeless_pictures.several(FAULTS, colour)
+    yield from edgeless_pictures.unconverted_first(cases)
+
+
 def check_bands(cases, found):
     """The cases of band_figures come in pairs that give the same planes."""
     pairs = [(case, planes) for case, (_, planes, _) in zip(cases, found) if "run at log2 CTB" in case.name]
@@ -483,13 +499,17 @@ def check_bands(cases, found):
 def main():
     checking = is_checking(__doc__)
     cases = [outright(case) for group in GROUPS for case in group()] + [*empty_lists(), *palette_cells()]
+    cases = [converted(case) for case in cases]
+    cases = [*cases, *edgeless(cases)]
     found, counts = expected([case.picture for case in cases] + [None])
     for case, (answer, planes, _) in zip(cases, found):
         assert answer == case.answer, (case.name, case.answer, answer)
         case.look_at(planes)
     check_bands(cases, found)
     turned = palette_pictures.check_turned(cases, found)
-    check_parting([(case, planes) for case, (answer, planes, _) in zip(cases, found) if answer == (0, 0)])
+    accepted = [(case, planes) for case, (answer, planes, _) in zip(cases, found) if answer == (0, 0)]
+    check_parting(accepted)
+    changed = check_converted(accepted)
     short = cases[0].picture.pack()[:-1]
     lines = [text for _, _, text in found]
     names = [(f"{case.answer[0]} {case.answer[1]}", case.name) for case in cases] + [("short", "one byte is missing")]
@@ -499,7 +519,8 @@ def main():
                                             for number, (answer, name) in enumerate(names, 1)).encode()}
     store(files, checking)
     size = len(files["crates/picture_cases/stdin"])
-    print(f"{len(lines)} records of {size} bytes in all; {tally(lines)}; {counts}; turned: {turned}")
+    print(f"{len(lines)} records of {size} bytes in all; {tally(lines)}; {counts}; turned: {turned};"
+          f" converted: {changed}")
 
 
 if __name__ == "__main__":

@@ -7,7 +7,9 @@ REAL is the folder of real pictures, by default ../shared/real seen from the rep
 fingerprints are of the planes in it, which another decoder filtered, and not of the oracle's or the stage's;
 where the oracles are built, they must give the same: of the first twelve the Rust and the second program, of the
 thirteenth, which has chroma indices above 57 in 4:2:0, the second program, and the Rust without its clip. The
-script stops where the Rust gives another difference there than docs/DIFFERENCES.md says.
+script stops where the Rust gives another difference there than docs/DIFFERENCES.md says. One picture has strengths
+without an edge, and is stored converted (document 02, C-14): the oracles must give the same planes of it as it was taken.
+As it was taken it comes last, and is refused.
 """
 
 import gzip
@@ -17,21 +19,25 @@ from pathlib import Path
 
 sys.dont_write_bytecode = True
 
-from ledger import verdict
-from picture_records import decided, line, oracle, unpack
+from ledger import CELL_BYTES, verdict
+from picture_records import JUNK, decided, line, oracle, unpack
 from stored import HOW, ROOT, oracle_path, stop, store
 
 REAL = ROOT / ".." / "shared" / "real"
 COUNT = 13
 # 4:2:0 with chroma indices above 57 (docs/DIFFERENCES.md, 1); stored last.
 PARTING = "clip_q51_p12_p9_tcm4_001"
+# The one with strengths that have no edge (document 02, C-14).
+EDGELESS = "inj_all_444_10_000"
+EDGELESS_ANSWER = 9, 1
 
 
 def read(folder, name):
-    """The record, the picture, and the expected planes."""
+    """The picture and the expected planes."""
     data = gzip.decompress((folder / f"{name}.sheet.gz").read_bytes())
     (picture, record), = unpack(data)
-    assert record == data and verdict(picture) == (0, 0)
+    assert record == data == picture.pack() and verdict(picture, rule=False) == (0, 0)
+    assert verdict(picture) == (EDGELESS_ANSWER if name == EDGELESS else (0, 0))
     after = gzip.decompress((folder / f"{name}.expect.gz").read_bytes())
     number, place = struct.unpack_from("<iQ", after)
     assert (number, place) == (0, 0)
@@ -41,7 +47,7 @@ def read(folder, name):
         planes.append(list(samples[at:at + len(plane)]))
         at += len(plane)
     assert at == len(samples)
-    return data, picture, planes
+    return picture, planes
 
 
 def positions_differing(picture, planes, others):
@@ -60,12 +66,21 @@ def parting(picture, planes):
     return f"{PARTING}: the Rust differs in {len(cb)} samples of Cb and {len(cr)} of Cr, not without its clip"
 
 
-def check_oracles(pictures, wanted):
-    """All oracles beside the expected planes; what to say of it."""
-    planes, counts, left = decided(pictures)
-    assert left == [False] * (COUNT - 1) + [True]
-    assert planes == wanted and oracle(pictures, "unclipped")[0] == wanted
-    return [counts, parting(pictures[-1], wanted[-1])]
+def check_oracles(taken, stored, wanted):
+    """All oracles beside the expected planes, on the pictures as they were taken and as they are stored; what to say of it."""
+    for pictures in (taken, stored):
+        planes, counts, left = decided(pictures)
+        assert left == [False] * (COUNT - 1) + [True]
+        assert planes == wanted and oracle(pictures, "unclipped")[0] == wanted
+    return [counts, parting(stored[-1], wanted[-1])]
+
+
+def lost(picture):
+    """What the picture loses by the conversion."""
+    changed = [number for number, pair in enumerate(zip(picture.cells, picture.converted().cells)) if pair[0] != pair[1]]
+    cells = {number // CELL_BYTES for number in changed}
+    return (f"{EDGELESS}: {len(changed)} strengths in {len(cells)} cells have no edge, the first in cell {min(cells)}; converted,"
+            " and at the end as it was taken")
 
 
 def main():
@@ -81,15 +96,19 @@ def main():
     names = sorted({path.name.removesuffix(".sheet.gz") for path in folder.glob("*.sheet.gz")} - {PARTING}) + [PARTING]
     if len(names) != COUNT or not (folder / f"{PARTING}.sheet.gz").exists():
         stop(f"{folder}: other real pictures than the {COUNT} that are stored, {PARTING} among them")
-    found = [read(folder, name) for name in names]
+    taken, planes = zip(*(read(folder, name) for name in names))
+    stored = [picture.converted() for picture in taken]
     says = [f"not compared with the oracle, which is not built: {HOW}"]
     if oracle_path("picture").exists():
-        says = check_oracles([picture for _, picture, _ in found], [planes for _, _, planes in found])
-    lines = [line(number, (0, 0), planes) for number, (_, _, planes) in enumerate(found, 1)]
-    files = {"crates/real_pictures/stdin": b"".join(data for data, _, _ in found),
+        says = check_oracles(taken, stored, list(planes))
+    edgeless = taken[names.index(EDGELESS)]
+    says.append(lost(edgeless))
+    lines = [line(number, (0, 0), own) for number, own in enumerate(planes, 1)]
+    lines.append(line(COUNT + 1, EDGELESS_ANSWER, [[JUNK] * length for length in edgeless.out_lengths]))
+    files = {"crates/real_pictures/stdin": b"".join(picture.pack() for picture in (*stored, edgeless)),
              "crates/real_pictures/stdout": "".join(lines).encode()}
     store(files, checking)
-    print(f"{len(found)} real pictures: {', '.join(names)}", *says, sep="\n")
+    print(f"{len(stored)} real pictures: {', '.join(names)}", *says, sep="\n")
 
 
 if __name__ == "__main__":

@@ -14,10 +14,11 @@ import sys
 
 sys.dont_write_bytecode = True
 
+from edgeless_pictures import unconverted
 from empty_list_pictures import far_apart, otherwise
 from ledger import SCALES, verdict
 from palette_pictures import check_turned
-from picture_case import Case, moves, outright, stays
+from picture_case import Case, check_converted, converted, moves, outright, stays
 from picture_records import (HORIZONTAL, LOSSLESS, PALETTE, PCM, PLAIN_SLICE, VERTICAL, Picture, decided, fingerprint, oracle,
                              random_picture)
 from pictures import FAR, FAULTS, colour, example, restored, step_at, t1
@@ -292,6 +293,17 @@ def palette_cells():
         yield Marked(f"{name}; turned", picture.turned())
 
 
+def edgeless(cases):
+    """Strengths without an edge, in the picture's last cell alone and in two converted pictures as they were before: refused in
+    every place (document 02, C-14)."""
+    random = Random(38)
+    picture = busy(random, random_picture(random, width=24, height=24, format=1, luma_depth=8, log2_ctb=4, columns=[0, 1],
+                                          rows=[0, 1], slices=[PLAIN_SLICE]))
+    picture.cells[-8 + 1] = VERTICAL
+    yield Case("C-14: the last cell has a horizontal bS and no edge", picture, 9, len(picture.cells) // 8 - 1)
+    yield from map(unconverted, [case for case in cases if case.before][:2])
+
+
 # A picture of these that has no slice record passes 0, 6, 6, 1 outright (C-13); those that are to have none are `empty_lists`.
 GROUPS = [figures, grids, many, twins, refusals, highest, example]
 
@@ -347,6 +359,8 @@ def check_twins(accepted):
 def main():
     checking = is_checking(__doc__)
     cases = [outright(case) for group in GROUPS for case in group()] + [*empty_lists(), *palette_cells()]
+    cases = [converted(case) for case in cases]
+    cases = [*cases, *edgeless(cases)]
     for case in cases:
         assert verdict(case.picture) == case.answer, (case.name, case.answer, verdict(case.picture))
     filtered, counts, left = decided([case.picture for case in cases if case.answer == (0, 0)])
@@ -359,6 +373,7 @@ def main():
     check_twins(accepted)
     check_parting(accepted, left)
     check_turned([case for case, _ in accepted], [(case.answer, planes) for case, planes in accepted])
+    changed = check_converted(accepted)
     planes_of = {id(case): planes for case, planes in accepted}
     text = [line for number, case in enumerate(cases, 1)
             for line in lines(number, case.picture, case.answer, planes_of.get(id(case)))]
@@ -369,7 +384,7 @@ def main():
                                          for number, (answer, name) in enumerate(names, 1)).encode()}
     store(files, checking)
     print(f"{len(cases)} pictures, {len(accepted)} accepted, {tiles} tiles; {len(files['crates/tile_cases/stdin'])} bytes; {counts};"
-          f" left to the second program: {sum(left)}")
+          f" left to the second program: {sum(left)}; converted: {changed}")
 
 
 if __name__ == "__main__":

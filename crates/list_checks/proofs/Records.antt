@@ -1,22 +1,23 @@
 -- The bytes of slice and cell records and the tile starts, as the checks read them.
-use Prim.Native.Nat.{ℕ, zero, suc, _+_, _-_, _*_, _/_, _≤_, _<_}
+use Prim.Native.Nat.{ℕ, zero, suc, _+_, _-_, _*_, _/_, _%_, _≤_, _<_, min}
 use mathlib.Core.Path.{_≡_, refl, sym, ap, _∙_}
-use mathlib.Core.Bool.{Bool, not}
+use mathlib.Core.Bool.{Bool, true, false, cond, not, _&&_, _||_, and-false, and-true}
 use mathlib.Core.List.{List, [], _∷_, _++_}
 use mathlib.Core.Logic.{_⊎_, inl, inr}
-use native.Mathlib.Nat.{add-zero}
+use native.Mathlib.Nat.{add-zero, div-one}
 use native.Mathlib.Omega.{arith}
-use borrow.Author.Tests.{lt-ltb, le-ltb}
+use borrow.Author.Tests.{lt-ltb, le-ltb, lt-leb, le-leb, ne-eqb}
 use lib.Dec.{leb, ltb, eqb}
 use lib.ListN.{length, getD}
 use Rattle.ints.proofs.Laws.{either}
-use Rattle.picture.specs.Causes.{Rule, badCell, badOrder, badSlice, broken, cellsCause}
+use Rattle.picture.specs.Causes.{Rule, badCell, badOrder, badSlice, broken, cellRules, cellsCause}
 use Rattle.picture.specs.Cell.{cellAt, cellByte}
+use Rattle.picture.specs.declared.Cell.{Cell}
 use Rattle.picture.specs.Ledger.{Cause, anyOf, firstBad, placeOf}
 use Rattle.picture.specs.Slice.{sliceByte, sliceCount}
 use Rattle.picture.proofs.Accepted.{qp-low-test, qp-high-test}
-use Rattle.list_checks.specs.Cells.{badRecord}
-use Rattle.checks.proofs.Tests.{any-same}
+use Rattle.list_checks.specs.Cells.{badQpByte, badRecord, badStrength, badTail}
+use Rattle.checks.proofs.Tests.{any-both, any-same, one-test}
 
 -- ---- slices
 
@@ -59,6 +60,103 @@ recordsCause rules least count cells m = record {
   count = m;
   bad = λ n. anyOf (badRecord least count cells n ++ broken rules (cellByte cells n));
 }
+
+-- the tests as the code tries them: how far a QP byte lies above the least one, around the end of a byte
+pub qp-tests : (least qp : ℕ) → least ≤ 115 → qp < 256
+    → ltb (115 - least) ((256 + qp - least) % 256) ≡ anyOf (badQpByte least qp)
+qp-tests least qp low byte = go (either qp least) (either 115 qp)
+  where
+    go : (qp < least) ⊎ (least ≤ qp) → (115 < qp) ⊎ (qp ≤ 115)
+        → ltb (115 - least) ((256 + qp - least) % 256) ≡ anyOf (badQpByte least qp)
+    go (inl l) _ = rw (lt-ltb qp least l) (lt-ltb (115 - least) ((256 + qp - least) % 256) (omega arith))
+    go (inr l) (inl h) =
+        rw (le-ltb qp least l, lt-ltb 115 qp h) (lt-ltb (115 - least) ((256 + qp - least) % 256) (omega arith))
+    go (inr l) (inr h) =
+        rw (le-ltb qp least l, le-ltb 115 qp h) (le-ltb (115 - least) ((256 + qp - least) % 256) (omega arith))
+
+-- a strength beside the largest one
+pub strength-tests : (edge : Bool) (bs : ℕ) → ltb (cond edge 2 0) bs ≡ anyOf (badStrength edge bs)
+strength-tests true bs = rw (and-false (ltb 0 bs)) (one-test (ltb 2 bs))
+strength-tests false bs = rw (and-true (ltb 0 bs)) (go (either 2 bs))
+  where
+    go : (2 < bs) ⊎ (bs ≤ 2) → ltb 0 bs ≡ anyOf (ltb 2 bs ∷ ltb 0 bs ∷ [])
+    go (inl h) = rw (lt-ltb 2 bs h) (lt-ltb 0 bs (omega arith))
+    go (inr h) = rw (le-ltb 2 bs h) (one-test (ltb 0 bs))
+
+-- a slice number with the two bytes above it
+pub tail-tests : (count slice sixth seventh : ℕ) → slice < 65536
+    → leb (min count 65536) (slice + 65536 * sixth + 16777216 * seventh) ≡ anyOf (badTail count slice sixth seventh)
+tail-tests count slice sixth seventh small = go (either slice count) sixth seventh
+  where
+    go : (slice < count) ⊎ (count ≤ slice) → (sixth seventh : ℕ)
+        → leb (min count 65536) (slice + 65536 * sixth + 16777216 * seventh) ≡ anyOf (badTail count slice sixth seventh)
+    go (inr h) sixth seventh =
+        rw (le-leb count slice h)
+        (le-leb (min count 65536) (slice + 65536 * sixth + 16777216 * seventh) (omega arith))
+    go (inl h) zero zero =
+        rw (lt-leb count slice h) (lt-leb (min count 65536) (slice + 65536 * 0 + 16777216 * 0) (omega arith))
+    go (inl h) zero (suc z) =
+        rw (lt-leb count slice h, ne-eqb (suc z) 0 (omega arith))
+        (le-leb (min count 65536) (slice + 65536 * 0 + 16777216 * suc z) (omega arith))
+    go (inl h) (suc z) seventh =
+        rw (lt-leb count slice h, ne-eqb (suc z) 0 (omega arith))
+        (le-leb (min count 65536) (slice + 65536 * suc z + 16777216 * seventh) (omega arith))
+
+-- the tests of a record: a strength's range beside its rule, and the rules after the ranges
+regrouped : (q f v w h k t : Bool)
+    → ((((q || f) || anyOf (v ∷ w ∷ [])) || anyOf (h ∷ k ∷ [])) || t)
+    ≡ ((q || (anyOf (f ∷ v ∷ h ∷ []) || t)) || anyOf (w ∷ k ∷ []))
+regrouped true f v w h k t = refl
+regrouped false true v w h k t = refl
+regrouped false false true w h k t = refl
+regrouped false false false true true k t = refl
+regrouped false false false false true k t = refl
+regrouped false false false true false k true = refl
+regrouped false false false true false k false = refl
+regrouped false false false false false true true = refl
+regrouped false false false false false true false = refl
+regrouped false false false false false false true = refl
+regrouped false false false false false false false = refl
+
+together : (qs ts : List Bool) (f v w h k : Bool) {q vertical horizontal t : Bool} → q ≡ anyOf qs
+    → vertical ≡ anyOf (v ∷ w ∷ []) → horizontal ≡ anyOf (h ∷ k ∷ []) → t ≡ anyOf ts
+    → ((((q || f) || vertical) || horizontal) || t) ≡ anyOf ((qs ++ ((f ∷ v ∷ h ∷ []) ++ ts)) ++ (w ∷ k ∷ []))
+together qs ts f v w h k eq ev eh et =
+    (λ i. (((eq i || f) || ev i) || eh i) || et i)
+    ∙ regrouped (anyOf qs) f v w h k (anyOf ts)
+    ∙ any-both (qs ++ ((f ∷ v ∷ h ∷ []) ++ ts)) (w ∷ k ∷ [])
+    (any-both qs ((f ∷ v ∷ h ∷ []) ++ ts) refl (any-both (f ∷ v ∷ h ∷ []) ts refl refl)) refl
+
+module _ (least count : ℕ) (cells : List ℕ) (n : ℕ) where
+  -- the tests of record n, read as `cell`; bit 0 of its flags is not shifted in the code, so that `left` are the flags
+  abbrev tests : Cell → ℕ → List Bool
+  tests cell left =
+      (badQpByte least (cell .qp)
+      ++ ((ltb 31 (cell .flags) ∷ ltb 2 (cell .bsv) ∷ ltb 2 (cell .bsh) ∷ [])
+      ++ badTail count (cell .slice) (cellByte cells n 6) (cellByte cells n 7)))
+      ++ ((ltb 0 (cell .bsv) && not (eqb (left % 2) 1))
+      ∷ (ltb 0 (cell .bsh) && not (eqb (cell .flags / 2 % 2) 1))
+      ∷ [])
+
+  read-tests : (cell : Cell) → cell ≡ cellAt cells n
+      → anyOf (tests cell (cell .flags)) ≡ anyOf (badRecord least count cells n ++ broken cellRules (cellByte cells n))
+  unfolding cellAt
+  read-tests cell told =
+      ap (λ (c : Cell). anyOf (tests c (c .flags))) told
+      ∙ ap (λ (left : ℕ). anyOf (tests (cellAt cells n) left)) (sym (div-one (cellByte cells n 1)))
+
+  pub record-tests : (cell : Cell) {q vertical horizontal t : Bool} → cell ≡ cellAt cells n
+      → q ≡ anyOf (badQpByte least (cell .qp))
+      → vertical ≡ anyOf (badStrength (eqb (cell .flags % 2) 1) (cell .bsv))
+      → horizontal ≡ anyOf (badStrength (eqb (cell .flags / 2 % 2) 1) (cell .bsh))
+      → t ≡ anyOf (badTail count (cell .slice) (cellByte cells n 6) (cellByte cells n 7))
+      → ((((q || ltb 31 (cell .flags)) || vertical) || horizontal) || t)
+      ≡ anyOf (badRecord least count cells n ++ broken cellRules (cellByte cells n))
+  record-tests cell told eq ev eh et =
+      together (badQpByte least (cell .qp)) (badTail count (cell .slice) (cellByte cells n 6) (cellByte cells n 7))
+      (ltb 31 (cell .flags)) (ltb 2 (cell .bsv)) (ltb 0 (cell .bsv) && not (eqb (cell .flags % 2) 1))
+      (ltb 2 (cell .bsh)) (ltb 0 (cell .bsh) && not (eqb (cell .flags / 2 % 2) 1)) eq ev eh et
+      ∙ read-tests cell told
 
 module _ {depth : ℕ} (h : depth ≤ 16) (slices : List ℕ) {count : ℕ} (e : count ≡ sliceCount slices) where
   least-is : (b : ℕ) → ltb b (leastByte depth) ≡ ltb (b + 6 * (depth - 8)) 64

@@ -1,7 +1,8 @@
--- A picture is answered as the turned one: no check but that of a cell's flags looks at them, and that lets bit 4 pass.
+-- A picture is answered as the turned one: of the checks only those of a cell look at its flags, and they let bit 4
+-- pass and find the edges' bits as they were.
 use Prim.Native.Nat.{ℕ, _+_, _*_, _%_}
 use mathlib.Core.Path.{_≡_, ap, sym, _∙_}
-use mathlib.Core.Bool.{not}
+use mathlib.Core.Bool.{not, _&&_}
 use mathlib.Core.List.{[], _∷_, _++_}
 use native.Mathlib.Omega.{arith}
 use lib.Dec.{ltb, leb, eqb}
@@ -13,6 +14,7 @@ use Rattle.picture.specs.Causes.{
   badLists,
   badQp,
   badCell,
+  broken,
   cellRules,
   cause1,
   cause2,
@@ -26,7 +28,7 @@ use Rattle.picture.specs.Causes.{
   cause10,
   verdict,
 }
-use Rattle.picture.specs.Cell.{cellByte, cellCount}
+use Rattle.picture.specs.Cell.{bit, cellByte, cellCount}
 use Rattle.picture.specs.Ledger.{entry, firstOf, anyOf, once}
 use Rattle.picture.specs.Picture.{Picture, Planes}
 use Rattle.picture.specs.Slice.{sliceCount}
@@ -40,28 +42,47 @@ module _ (p : Picture) (lent : Planes) where
       (sym (same-length 0 (p .cells)))
 
   -- record n, whose other bytes are the same
-  nine : cause9 cellRules p ≡ cause9 cellRules (turned p)
-  nine = λ i. record { count = cellCount p; bad = λ n. anyOf (tests n i) }
-    where
-      tests : (n : ℕ)
-          → badCell (p .settings .luma-depth) (p .slices) (cellByte (p .cells) n)
-          ≡ badCell (p .settings .luma-depth) (p .slices) (cellByte (turnedFrom 0 (p .cells)) n)
-      tests n = λ i.
-          badQp (p .settings .luma-depth) (byte 0 (λ e. omega arith) i ⊖ 64)
-          ++ (flags i
-          ∷ ltb 2 (byte 2 (λ e. omega arith) i)
-          ∷ ltb 2 (byte 3 (λ e. omega arith) i)
-          ∷ leb (sliceCount (p .slices)) (byte 4 (λ e. omega arith) i + 256 * byte 5 (λ e. omega arith) i)
-          ∷ not (eqb (byte 6 (λ e. omega arith) i) 0)
-          ∷ not (eqb (byte 7 (λ e. omega arith) i) 0)
-          ∷ [])
-        where
-          byte : (b : ℕ) → ((0 + (8 * n + b)) % 8 ≡ 1 → ⊥)
-              → cellByte (p .cells) n b ≡ cellByte (turnedFrom 0 (p .cells)) n b
-          byte b other = sym (other-byte (p .cells) n b other)
+  module _ (n : ℕ) where
+    abbrev before : ℕ → ℕ
+    before = cellByte (p .cells) n
 
-          flags : ltb 31 (cellByte (p .cells) n 1) ≡ ltb 31 (cellByte (turnedFrom 0 (p .cells)) n 1)
-          flags = sym (ap (ltb 31) (flags-byte (p .cells) n) ∙ turns (cellByte (p .cells) n 1) .large)
+    abbrev after : ℕ → ℕ
+    after = cellByte (turnedFrom 0 (p .cells)) n
+
+    byte : (b : ℕ) → ((0 + (8 * n + b)) % 8 ≡ 1 → ⊥) → before b ≡ after b
+    byte b other = sym (other-byte (p .cells) n b other)
+
+    flags : ltb 31 (before 1) ≡ ltb 31 (after 1)
+    flags = sym (ap (ltb 31) (flags-byte (p .cells) n) ∙ turns (before 1) .large)
+
+    in-range :
+        badCell (p .settings .luma-depth) (p .slices) before
+        ≡ badCell (p .settings .luma-depth) (p .slices) after
+    in-range = λ i.
+        badQp (p .settings .luma-depth) (byte 0 (λ e. omega arith) i ⊖ 64)
+        ++ (flags i
+        ∷ ltb 2 (byte 2 (λ e. omega arith) i)
+        ∷ ltb 2 (byte 3 (λ e. omega arith) i)
+        ∷ leb (sliceCount (p .slices)) (byte 4 (λ e. omega arith) i + 256 * byte 5 (λ e. omega arith) i)
+        ∷ not (eqb (byte 6 (λ e. omega arith) i) 0)
+        ∷ not (eqb (byte 7 (λ e. omega arith) i) 0)
+        ∷ [])
+
+    -- the edges' bits are none of those that are turned
+    left : bit (before 1) 0 ≡ bit (after 1) 0
+    left = sym (ap (λ (f : ℕ). bit f 0) (flags-byte (p .cells) n) ∙ turns (before 1) .zeroth)
+
+    top : bit (before 1) 1 ≡ bit (after 1) 1
+    top = sym (ap (λ (f : ℕ). bit f 1) (flags-byte (p .cells) n) ∙ turns (before 1) .first)
+
+    in-rule : broken cellRules before ≡ broken cellRules after
+    in-rule = λ i.
+        (ltb 0 (byte 2 (λ e. omega arith) i) && not (left i))
+        ∷ (ltb 0 (byte 3 (λ e. omega arith) i) && not (top i))
+        ∷ []
+
+  nine : cause9 cellRules p ≡ cause9 cellRules (turned p)
+  nine = λ i. record { count = cellCount p; bad = λ n. anyOf (in-range n i ++ in-rule n i) }
 
   pub answered : verdict p lent ≡ verdict (turned p) lent
   unfolding verdict

@@ -1,18 +1,29 @@
 -- A picture is accepted exactly where no cause of the refusal ledger applies.
 use Prim.Native.Nat.{ℕ, zero, suc, _+_, _-_, _*_, _≤_, _<_}
-use mathlib.Core.Path.{_≡_, ap}
-use mathlib.Core.Bool.{Bool, false}
+use mathlib.Core.Path.{_≡_, refl, sym, ap}
+use mathlib.Core.Bool.{Bool, true, false, not, _&&_}
 use mathlib.Core.List.{List, [], _∷_, _++_}
 use native.Mathlib.Omega.{arith}
-use borrow.Author.Tests.{ltb-false, leb-false, lt-leb, le-ltb}
+use borrow.Author.Tests.{ltb-true, ltb-false, leb-false, lt-ltb, lt-leb, le-ltb}
 use lib.Dec.{ltb}
 use lib.ListN.{length}
 use lib.IntN.{pos}
 use Rattle.ints.specs.Int.{_⊖_, neg, lt}
 use Rattle.ints.proofs.Bounds.{low-out, most-out}
 use Rattle.ints.proofs.Laws.{diffs, lt-diff, pos-lt}
-use Rattle.picture.specs.Accepted.{SettingsOk, PlanesOk, SliceOk, StartsOk, CellOk, PictureOk, Accepted}
+use Rattle.picture.specs.Accepted.{
+  SettingsOk,
+  PlanesOk,
+  SliceOk,
+  StartsOk,
+  CellOk,
+  StrengthsOk,
+  PictureOk,
+  Accepted,
+}
 use Rattle.picture.specs.Causes.{
+  Rule,
+  broken,
   badSize,
   badFormat,
   badDepths,
@@ -36,6 +47,7 @@ use Rattle.picture.specs.Causes.{
   ledger,
   verdict,
 }
+use Rattle.picture.specs.Cell.{bit, cellByte, cellCount}
 use Rattle.picture.specs.Ledger.{Verdict, acceptance, andThen, anyOf, firstOf}
 use Rattle.picture.specs.Picture.{Picture, Planes, Settings, ctbSize}
 use Rattle.picture.specs.Scale.{Component, Y, Cb, Cr}
@@ -99,15 +111,20 @@ module _ (l : List ℕ) (many size total : ℕ) where
   starts-in ok (suc k) hk =
       none-in (badStart l size total (suc k)) (omega (arith, lt-leb, ok .rising k hk, ok .below (suc k) hk))
 
-cell-out : (depth : ℕ) (slices : List ℕ) (byte : ℕ → ℕ) → anyOf (badCell depth slices byte) ≡ false
-    → CellOk depth slices byte
-cell-out depth slices byte e =
-    let h = none-out (badCell depth slices byte) e in
-    search to-fact depth 1
+-- a cell's ranges, and the rules that it obeys besides
+cell-out : (depth : ℕ) (slices : List ℕ) (rules : List Rule) (byte : ℕ → ℕ)
+    → anyOf (badCell depth slices byte ++ broken rules byte) ≡ false
+    → CellOk depth slices byte × NoneOf (broken rules byte)
+cell-out depth slices rules byte e =
+    let (h, obeyed) = none-part (badCell depth slices byte) (broken rules byte)
+    (none-out (badCell depth slices byte ++ broken rules byte) e) in
+    (search to-fact depth 1, obeyed)
 
-cell-in : (depth : ℕ) (slices : List ℕ) (byte : ℕ → ℕ) → CellOk depth slices byte
-    → anyOf (badCell depth slices byte) ≡ false
-cell-in depth slices byte ok = none-in (badCell depth slices byte) (search to-test depth 1)
+cell-in : (depth : ℕ) (slices : List ℕ) (rules : List Rule) (byte : ℕ → ℕ) → CellOk depth slices byte
+    → NoneOf (broken rules byte) → anyOf (badCell depth slices byte ++ broken rules byte) ≡ false
+cell-in depth slices rules byte ok obeyed =
+    none-in (badCell depth slices byte ++ broken rules byte)
+    (none-join (badCell depth slices byte) (broken rules byte) (search to-test depth 1) obeyed)
 
 samples-out : (p : Picture) → Good (cause10 p) → (c : Component) → Good (samplesCause p c)
 samples-out p h =
@@ -132,13 +149,48 @@ pub qp-range : {depth : ℕ} {slices : List ℕ} {byte : ℕ → ℕ} → CellOk
 qp-range {depth} {slices} {byte} ok =
     (low-out (6 * (depth - 8)) (byte 0) 64 (ok .qp-low), most-out 51 (byte 0) 64 (ok .qp-high))
 
--- ---- a picture that no cause applies to is accepted, whatever is lent beside it
+-- ---- the rules of a cell, and C-14's
 
-pub picture-by : (lent : List Bool) (p : Picture) → firstOf (ledger lent cellRules p) ≡ acceptance
-    → PictureOk p × NoneOf lent
-picture-by lent p e =
+-- a cell breaks none of the rules
+abbrev pub Obeys : List Rule → Picture → Type 0
+Obeys rules p = (n : ℕ) → n < cellCount p → NoneOf (broken rules (cellByte (p .cells) n))
+
+edge-out : (some edge : Bool) → (some && not edge) ≡ false → some ≡ true → edge ≡ true
+edge-out true true e h = refl
+edge-out true false e h = sym e
+edge-out false edge e h = absurd (let z : _≡_ {A = ℕ} 0 1 = cc in omega arith)
+
+edge-in : (some edge : Bool) → (some ≡ true → edge ≡ true) → (some && not edge) ≡ false
+edge-in true true h = refl
+edge-in true false h = sym (h refl)
+edge-in false edge h = refl
+
+pub strengths-out : (byte : ℕ → ℕ) → NoneOf (broken cellRules byte) → StrengthsOk byte
+strengths-out byte h = record {
+  vertical = λ some. edge-out (ltb 0 (byte 2)) (bit (byte 1) 0) (h .0) (lt-ltb _ _ some);
+  horizontal = λ some. edge-out (ltb 0 (byte 3)) (bit (byte 1) 1) (h .1 .0) (lt-ltb _ _ some);
+}
+
+pub strengths-in : (byte : ℕ → ℕ) → StrengthsOk byte → NoneOf (broken cellRules byte)
+strengths-in byte ok = (
+  edge-in (ltb 0 (byte 2)) (bit (byte 1) 0) (λ e. ok .vertical (ltb-true _ _ e)),
+  (edge-in (ltb 0 (byte 3)) (bit (byte 1) 1) (λ e. ok .horizontal (ltb-true _ _ e)), tt),
+)
+
+-- a record with the same bytes is in rule too
+pub strengths-same : (f g : ℕ → ℕ) → ((b : ℕ) → b < 8 → f b ≡ g b) → StrengthsOk g → StrengthsOk f
+strengths-same f g e ok = record {
+  vertical = λ some. rw (e 1 (omega arith)) (ok .vertical (omega (arith, e 2 (omega arith))));
+  horizontal = λ some. rw (e 1 (omega arith)) (ok .horizontal (omega (arith, e 3 (omega arith))));
+}
+
+-- ---- a picture that no cause applies to is accepted, whatever is lent beside it and whatever the rules are
+
+pub picture-by : (lent : List Bool) (rules : List Rule) (p : Picture) → firstOf (ledger lent rules p) ≡ acceptance
+    → PictureOk p × NoneOf lent × Obeys rules p
+picture-by lent rules p e =
     let (g1, (g2, (g3, (g4, (g5, (g6, (g7, (g8, (g9, (g10, _)))))))))) =
-    good-out (ledger lent cellRules p) (omega arith) (ap (λ (v : Verdict). v .number) e) in
+    good-out (ledger lent rules p) (omega arith) (ap (λ (v : Verdict). v .number) e) in
     let t : Settings = p .settings in
     let sizes = once-out (badSize (p .width) ++ badSize (p .height)) g1 in
     let (own, others) = none-part (badPlanes p (p .originals)) (lent ++ badLists p)
@@ -163,17 +215,22 @@ picture-by lent p e =
             starts-out (p .columns) 20 (ctbSize t) (p .width) (search to-fact depth 1)
             (search to-fact depth 1) columns;
         rows = starts-out (p .rows) 22 (ctbSize t) (p .height) (search to-fact depth 1) (search to-fact depth 1) rows;
-        cells = λ n h. cell-out (t .luma-depth) (p .slices) _ (g9 n h);
+        cells = λ n h. cell-out (t .luma-depth) (p .slices) rules _ (g9 n h) .0;
         samples = λ c k h. ltb-false _ _ (samples-out p g10 c k h);
       },
       beside,
+      λ n h. cell-out (t .luma-depth) (p .slices) rules _ (g9 n h) .1,
     )
 
 pub accepted-by : (p : Picture) (outputs : Planes) → verdict p outputs ≡ acceptance → Accepted p outputs
 unfolding verdict
 accepted-by p outputs e =
-    let (picture, lent) = picture-by (badPlanes p outputs) p e in
-    record { picture = picture; outputs-long = planes-out p outputs lent }
+    let (picture, lent, rules) = picture-by (badPlanes p outputs) cellRules p e in
+    record {
+      picture = picture;
+      edges = λ n h. strengths-out (cellByte (p .cells) n) (rules n h);
+      outputs-long = planes-out p outputs lent;
+    }
 
 -- its number says whether a picture is accepted
 pub accepted-number : (p : Picture) (outputs : Planes) → verdict p outputs .number ≡ 0
@@ -185,9 +242,9 @@ accepted-number p outputs e =
 
 -- ---- and none applies to an accepted one
 
-pub picture-is : (lent : List Bool) (p : Picture) → PictureOk p → NoneOf lent
-    → firstOf (ledger lent cellRules p) ≡ acceptance
-picture-is lent p ok beside =
+pub picture-is : (lent : List Bool) (rules : List Rule) (p : Picture) → PictureOk p → NoneOf lent → Obeys rules p
+    → firstOf (ledger lent rules p) ≡ acceptance
+picture-is lent rules p ok beside obeyed =
     let t : Settings = p .settings in
     let columns = starts-in (p .columns) 20 (ctbSize t) (p .width) (ok .columns) in
     let rows = starts-in (p .rows) 22 (ctbSize t) (p .height) (ok .rows) in
@@ -203,11 +260,12 @@ picture-is lent p ok beside =
     let g7 = slice-in (p .slices) (ok .slices .records) in
     let g8 = then-in (startsCause (p .columns) (ctbSize t) (p .width)) (startsCause (p .rows) (ctbSize t) (p .height))
     columns rows in
-    let g9 : Good (cause9 cellRules p) = λ n h. cell-in (t .luma-depth) (p .slices) _ (ok .cells n h) in
+    let g9 : Good (cause9 rules p) = λ n h. cell-in (t .luma-depth) (p .slices) rules _ (ok .cells n h) (obeyed n h) in
     let g10 = samples-in p (λ c k h. le-ltb _ _ (ok .samples c k h)) in
-    good-in (ledger lent cellRules p) (g1, (g2, (g3, (g4, (g5, (g6, (g7, (g8, (g9, (g10, tt))))))))))
+    good-in (ledger lent rules p) (g1, (g2, (g3, (g4, (g5, (g6, (g7, (g8, (g9, (g10, tt))))))))))
 
 pub accepted-is : (p : Picture) (outputs : Planes) → Accepted p outputs → verdict p outputs ≡ acceptance
 unfolding verdict
 accepted-is p outputs ok =
-    picture-is (badPlanes p outputs) p (ok .picture) (planes-in p outputs (ok .outputs-long))
+    picture-is (badPlanes p outputs) cellRules p (ok .picture) (planes-in p outputs (ok .outputs-long))
+    (λ n h. strengths-in (cellByte (p .cells) n) (ok .edges n h))

@@ -132,6 +132,13 @@ cases =
     -- all flags of document 01 and C-19's, and the first that is none
     ∷ case (celled (set (cells 4) (8 * 2 + 1) 31) base) lent 0 0
     ∷ case (celled (set (cells 4) (8 * 2 + 1) 32) base) lent 9 2
+    -- C-14: a strength above 0 needs its own bit, and no other helps; 0 needs none
+    ∷ case (celled (set (cells 4) (8 * 2 + 1) 30) base) lent 9 2
+    ∷ case (celled (set (cells 4) (8 * 3 + 1) 29) base) lent 9 3
+    ∷ case (celled (set (set (cells 4) (8 * 2 + 1) 2) (8 * 2 + 2) 1) base) lent 9 2
+    ∷ case (celled (set (set (cells 4) (8 * 2 + 1) 2) (8 * 2 + 2) 0) base) lent 0 0
+    ∷ case (celled (set (set (cells 4) (8 * 3 + 1) 1) (8 * 3 + 3) 1) base) lent 9 3
+    ∷ case (celled (set (set (cells 4) (8 * 3 + 1) 1) (8 * 3 + 3) 0) base) lent 0 0
     ∷ case (showing (grey (set flat 5 256)) base) lent 10 5
     -- of two faults the lower number is answered
     ∷ case (sized 12 (under (settings 4 8 4 (pos 0)) base)) lent 1 0

@@ -1,13 +1,15 @@
--- The pictures that are accepted: the ranges and the lengths of document 01, 'What a sheet consists of', as one
--- readable predicate. proofs/Accepted.antt shows that it holds exactly where no cause of the ledger applies.
+-- The pictures that are accepted: the ranges and the lengths of document 01, 'What a sheet consists of', and document
+-- 02's C-14, as one readable predicate. proofs/Accepted.antt shows that it holds exactly where no cause of the ledger
+-- applies.
 use Prim.Native.Nat.{ℕ, suc, _+_, _-_, _*_, _%_, _≤_, _<_}
 use mathlib.Core.Path.{_≡_}
+use mathlib.Core.Bool.{true}
 use mathlib.Core.List.{List}
 use lib.ListN.{length, getD}
 use lib.IntN.{ℤ, pos}
 use lib.Signed.{_≤ℤ_}
 use Rattle.ints.specs.Int.{_⊖_, neg}
-use Rattle.picture.specs.Cell.{cellByte, cellCount}
+use Rattle.picture.specs.Cell.{bit, cellByte, cellCount}
 use Rattle.picture.specs.Picture.{Picture, Planes, Settings, planeOf, planeWidth, planeHeight, largest, ctbSize}
 use Rattle.picture.specs.Scale.{Component}
 use Rattle.picture.specs.Slice.{sliceByte, sliceCount}
@@ -71,7 +73,12 @@ pub record CellOk (depth : ℕ) (slices : List ℕ) (byte : ℕ → ℕ) : Type 
   pub sixth : byte 6 ≡ 0
   pub seventh : byte 7 ≡ 0
 
--- the picture's own part
+-- Document 02, C-14: "vertical bS above 0 needs bit 0, horizontal bS above 0 bit 1"
+pub record StrengthsOk (byte : ℕ → ℕ) : Type 0 where
+  pub vertical : 0 < byte 2 → bit (byte 1) 0 ≡ true
+  pub horizontal : 0 < byte 3 → bit (byte 1) 1 ≡ true
+
+-- the picture's own part, but for C-14's rule
 pub record PictureOk (p : Picture) : Type 0 where
   pub width : SizeOk (p .width)
   pub height : SizeOk (p .height)
@@ -86,7 +93,12 @@ pub record PictureOk (p : Picture) : Type 0 where
       (c : Component) (k : ℕ) → k < length (planeOf (p .originals) c)
       → getD (planeOf (p .originals) c) k 0 ≤ largest (p .settings) c
 
+-- the rule, in every cell
+abbrev pub EdgesOk : Picture → Type 0
+EdgesOk p = (n : ℕ) → n < cellCount p → StrengthsOk (cellByte (p .cells) n)
+
 -- with the output planes that are lent to the stage
 pub record Accepted (p : Picture) (outputs : Planes) : Type 0 where
   pub picture : PictureOk p
+  pub edges : EdgesOk p
   pub outputs-long : PlanesOk p outputs

@@ -1,12 +1,12 @@
 -- The causes of document 01's 'Refusal ledger', each under the words of its row, and the ledger of the stage.
 use Prim.Native.Nat.{ℕ, zero, suc, _+_, _-_, _*_, _/_, _%_}
-use mathlib.Core.Bool.{Bool, not}
+use mathlib.Core.Bool.{Bool, not, _&&_}
 use mathlib.Core.List.{List, [], _∷_, _++_}
 use lib.Dec.{leb, ltb, eqb}
 use lib.ListN.{length, getD}
 use lib.IntN.{ℤ, pos}
 use Rattle.ints.specs.Int.{_⊖_, neg, lt}
-use Rattle.picture.specs.Cell.{cellByte, cellCount}
+use Rattle.picture.specs.Cell.{bit, cellByte, cellCount}
 use Rattle.picture.specs.Ledger.{Verdict, Cause, Entry, entry, firstOf, anyOf, once, andThen}
 use Rattle.picture.specs.Picture.{Picture, Planes, Settings, planeOf, planeWidth, planeHeight, largest, ctbSize}
 use Rattle.picture.specs.Scale.{Component, Y, Cb, Cr}
@@ -121,6 +121,14 @@ badCell depth slices byte =
 abbrev pub Rule : Type 0
 Rule = (ℕ → ℕ) → Bool
 
+-- Document 02, C-14: "vertical bS above 0 needs bit 0, horizontal bS above 0 bit 1"; these two hold of a record with a
+-- strength that has no edge
+abbrev pub verticalEdgeless : Rule
+verticalEdgeless byte = ltb 0 (byte 2) && not (bit (byte 1) 0)
+
+abbrev pub horizontalEdgeless : Rule
+horizontalEdgeless byte = ltb 0 (byte 3) && not (bit (byte 1) 1)
+
 abbrev pub broken : List Rule → (ℕ → ℕ) → List Bool
 broken [] byte = []
 broken (r ∷ rest) byte = r byte ∷ broken rest byte
@@ -162,9 +170,10 @@ ledger lent rules p =
     ∷ entry 10 (cause10 p)
     ∷ []
 
--- document 01 has no rule for a cell besides its ranges
+-- the stage's rules: document 01 has none besides the ranges, document 02's C-14 has these two, "under 9, in the same
+-- pass over the cells"
 abbrev pub cellRules : List Rule
-cellRules = []
+cellRules = verticalEdgeless ∷ horizontalEdgeless ∷ []
 
 -- the stage: "three output planes of the same lengths, lent to be written"
 unfoldable pub verdict : Picture → Planes → Verdict

@@ -6,13 +6,14 @@ use native.Mathlib.Nat.{le-div-iff-mul-le}
 use native.Mathlib.Omega.{arith}
 use lib.ListN.{length, getD}
 use lib.Pow.{pow-pos}
-use Rattle.picture.specs.Accepted.{PictureOk, SizeOk, PlanesOk, StartsOk, CellOk}
+use Rattle.picture.specs.Accepted.{PictureOk, SizeOk, PlanesOk, StartsOk, CellOk, EdgesOk}
 use Rattle.picture.specs.Cell.{cellByte, cellCount, cellNumber}
 use Rattle.picture.specs.Cut.{IsTile, tilePart, cellPart, tileOfPlane, cut}
 use Rattle.picture.specs.Picture.{Picture, Planes, planeOf, planeWidth, planeHeight, across, down, largest, ctbSize}
 use Rattle.picture.specs.Plane.{at}
 use Rattle.picture.specs.Scale.{Component, cellOf}
 use Rattle.picture.specs.Tile.{ctbCount, tileLeft, tileTop, tileWidth, tileHeight}
+use Rattle.picture.proofs.Accepted.{strengths-same}
 use Rattle.tiles_apart.proofs.Cells.{byte-moves}
 use Rattle.tiles_apart.proofs.Parts.{Split, split, at-split, within, crop-at, crop-length}
 use Rattle.tiles_apart.proofs.Tile.{
@@ -57,20 +58,35 @@ cell-ok depth slices f g e ok = record {
 
 module _ {p : Picture} (ok : PictureOk p) {i j : ℕ} (tile : IsTile p i j) where
   -- cell n of the cut is a cell of the picture
-  cells : (n : ℕ) → n < cellOf (tileWidth p i) * cellOf (tileHeight p j)
-      → CellOk (p .settings .luma-depth) (p .slices) (cellByte (cut p i j .cells) n)
-  cells n h =
+  record Found (n : ℕ) : Type 0 where
+    number : ℕ
+    there : number < cellCount p
+    same : (b : ℕ) → b < 8 → cellByte (cut p i j .cells) n b ≡ cellByte (p .cells) number b
+
+  found : (n : ℕ) → n < cellOf (tileWidth p i) * cellOf (tileHeight p j) → Found n
+  found n h =
       let w : ℕ = cellOf (tileWidth p i) in
       let d : Split w (cellOf (tileHeight p j)) n = split w (cellOf (tileHeight p j)) n h in
       let x : ℕ = n % w + cellOf (tileLeft p i) in
       let y : ℕ = n / w + cellOf (tileTop p j) in
       let inside = cells-inside ok tile in
-      let there : cellNumber (cellOf (p .width)) x y < cellCount p =
-      within (cellOf (p .width)) (cellOf (p .height)) x y (omega arith) (omega arith) in
-      cell-ok (p .settings .luma-depth) (p .slices) _ _
-      (λ b hb. ap (λ (m : ℕ). cellByte (cut p i j .cells) m b) (d .whole)
-      ∙ byte-moves ok tile (n % w) (n / w) b (d .column) (d .row) hb)
-      (ok .cells (cellNumber (cellOf (p .width)) x y) there)
+      record {
+        number = cellNumber (cellOf (p .width)) x y;
+        there = within (cellOf (p .width)) (cellOf (p .height)) x y (omega arith) (omega arith);
+        same = λ b hb.
+            ap (λ (m : ℕ). cellByte (cut p i j .cells) m b) (d .whole)
+            ∙ byte-moves ok tile (n % w) (n / w) b (d .column) (d .row) hb;
+      }
+
+  cells : (n : ℕ) → n < cellOf (tileWidth p i) * cellOf (tileHeight p j)
+      → CellOk (p .settings .luma-depth) (p .slices) (cellByte (cut p i j .cells) n)
+  cells n h =
+      let f = found n h in
+      cell-ok (p .settings .luma-depth) (p .slices) _ _ (f .same) (ok .cells (f .number) (f .there))
+
+  pub edges : EdgesOk p → EdgesOk (cut p i j)
+  unfolding cut
+  edges obeyed n h = let f = found n h in strengths-same _ _ (f .same) (obeyed (f .number) (f .there))
 
   module _ (c : Component) where
     abbrev W : ℕ
