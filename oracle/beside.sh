@@ -1,7 +1,7 @@
 #!/bin/sh
 # PROGRAM beside an oracle on the same random input: oracle/beside.sh RECORDS PROGRAM COUNT SEED
-# It serves compare_bench.sh and compare_pictures.sh. RECORDS is the script of this folder that writes the input and the
-# expected text, and compares that text with PROGRAM's.
+# It serves compare_bench.sh, compare_conversions.sh and compare_pictures.sh. RECORDS is the script of this folder that writes
+# the input and the expected text, and compares that text with PROGRAM's.
 set -eu
 here=$(cd "$(dirname "$0")" && pwd)
 records=$here/$1
