@@ -1,5 +1,5 @@
-/* Calls tinladle_deblock as a C program does. Every buffer lies between guard words; guards and inputs must stay as
- * they were, and on a refusal the junk in the output planes too. The expected samples are document 01's figures: of
+/* Calls the functions of the header as a C program does. Every buffer lies between guard words; guards and inputs must
+ * stay as they were, and on a refusal the junk in the outputs too. The expected samples are document 01's figures: of
  * S1, a step from 100 to 104 at QP 37 and bS 2 becomes 100 101 101 102 103 103 104 104; without a slice K1 is worked
  * out by hand. The refusals are the small inputs of its ledger, and a few more. */
 #include <stddef.h>
@@ -55,7 +55,7 @@ struct Picture {
     struct Lent lent[BUFFERS];
 };
 
-/* The arguments of every function of the header: a picture's nine settings and seven lists; then output planes. */
+/* The arguments of every function that takes a picture: its nine settings and seven lists; then output planes. */
 #define LENT16(p, which) lent(&(p)->lent[which]), (p)->lent[which].bytes / 2
 #define LENT8(p, which) lent(&(p)->lent[which]), (p)->lent[which].bytes
 #define SETTINGS(p) \
@@ -334,6 +334,45 @@ static void refused_cells(void) {
     refused(&p, "9: cell 9 has flags 32", 9, 9);
 }
 
+/* Cell 9, off every edge: a vertical bS above 0 needs bit 0 of the flags, a horizontal one bit 1. */
+static const struct Strengths {
+    const char *name;
+    uint8_t flags, vertical, horizontal;
+    uint32_t number;
+} strengths[] = {
+    { "9: vertical bS 1, no edge", 0, 1, 0, 9 },
+    { "9: vertical bS 2, the edge on the top side", 2, 2, 0, 9 },
+    { "9: vertical bS 2, every mark and no edge", 28, 2, 0, 9 },
+    { "9: vertical bS 2, the horizontal one in rule", 2, 2, 2, 9 },
+    { "9: horizontal bS 1, no edge", 0, 0, 1, 9 },
+    { "9: horizontal bS 2, the edge on the left side", 1, 0, 2, 9 },
+    { "9: horizontal bS 2, every mark and no edge", 28, 0, 2, 9 },
+    { "9: horizontal bS 2, the vertical one in rule", 1, 2, 2, 9 },
+    { "9: both, no edge", 0, 2, 1, 9 },
+    { "vertical bS 2 with its edge", 1, 2, 0, 0 },
+    { "horizontal bS 2 with its edge", 2, 0, 2, 0 },
+    { "both with their edges", 3, 1, 2, 0 },
+    { "edges of bS 0", 3, 0, 0, 0 },
+};
+
+static void strength_cases(void) {
+    for (size_t i = 0; i < sizeof strengths / sizeof *strengths; i++) {
+        const struct Strengths *t = &strengths[i];
+        struct Picture p = accepted();
+        cell(&p, 1, 1)[1] = t->flags, cell(&p, 1, 1)[2] = t->vertical, cell(&p, 1, 1)[3] = t->horizontal;
+        run(&p, t->name, t->number, t->number == 0 ? 0 : 9);
+        if (t->number == 0) expect_step(&p, t->name, 0, HEIGHT);
+        done(&p);
+    }
+    /* The first bad cell, for whichever reason. */
+    struct Picture p = accepted();
+    cell(&p, 3, 0)[0] = 63, cell(&p, 1, 1)[2] = 1;
+    refused(&p, "9: QP byte 63 before a bS without its edge", 9, 3);
+    p = accepted();
+    cell(&p, 3, 0)[3] = 1, cell(&p, 1, 1)[0] = 63;
+    refused(&p, "9: a bS without its edge before QP byte 63", 9, 3);
+}
+
 static void refused_samples(void) {
     struct Picture p = accepted();
     samples(&p, Y)[5] = 256;
@@ -349,6 +388,89 @@ static void refused_samples(void) {
     refused(&p, "9 before 10", 9, 31);
 }
 
+/* Byte i of a list's conversion: of a whole record, bytes 2 and 3 need bits 0 and 1 of byte 1. */
+static uint8_t converted(const uint8_t *cells, size_t count, size_t i) {
+    size_t first = i / 8 * 8, byte = i % 8;
+    bool is_strength = first + 8 <= count && (byte == 2 || byte == 3);
+    return is_strength && (cells[first + 1] >> (byte - 2) & 1) == 0 ? 0 : cells[i];
+}
+
+/* Converts the first bytes of a list, and looks at all that no answer may change. */
+static void convert(const char *name, const uint8_t *list, size_t count, size_t out_count) {
+    struct Lent cells = lend(count, 0), out = lend(out_count, OUT_JUNK), place = lend(8, OUT_JUNK);
+    memcpy(at(&cells), list, count);
+    remember(&cells), remember(&out);
+    uint32_t number = tinladle_convert_cells(lent(&cells), count, lent(&out), out_count, at(&place));
+    uint64_t stored;
+    memcpy(&stored, at(&place), sizeof stored);
+    expect(number == (count == out_count ? 0 : 6), name, "the number");
+    expect(stored == 0, name, "the place");
+    expect(guarded(&cells) && guarded(&out) && guarded(&place), name, "a guard was written");
+    expect(unchanged(&cells), name, "the list was written");
+    if (number != 0) expect(unchanged(&out), name, "a refusal wrote the output");
+    for (size_t i = 0; number == 0 && i < count; i++)
+        expect(((uint8_t *)at(&out))[i] == converted(list, count, i), name, "a byte");
+    give_back(&cells), give_back(&out), give_back(&place);
+}
+
+/* Records worked out by hand: before and after. */
+static const struct Record {
+    uint8_t before[8], after[8];
+} records[] = {
+    { { 101, 0, 2, 1, 3, 2, 0, 0 }, { 101, 0, 0, 0, 3, 2, 0, 0 } },
+    { { 101, 1, 2, 1, 3, 2, 0, 0 }, { 101, 1, 2, 0, 3, 2, 0, 0 } },
+    { { 101, 2, 2, 1, 3, 2, 0, 0 }, { 101, 2, 0, 1, 3, 2, 0, 0 } },
+    { { 101, 3, 2, 1, 3, 2, 0, 0 }, { 101, 3, 2, 1, 3, 2, 0, 0 } },
+    { { 101, 28, 1, 2, 3, 2, 0, 0 }, { 101, 28, 0, 0, 3, 2, 0, 0 } },
+    { { 255, 252, 255, 255, 255, 255, 255, 255 }, { 255, 252, 0, 0, 255, 255, 255, 255 } },
+    { { 255, 255, 255, 255, 255, 255, 255, 255 }, { 255, 255, 255, 255, 255, 255, 255, 255 } },
+};
+
+static void converted_records(void) {
+    for (size_t i = 0; i < sizeof records / sizeof *records; i++) {
+        const struct Record *t = &records[i];
+        convert("a record", t->before, 8, 8);
+        for (size_t j = 0; j < 8; j++) expect(converted(t->before, 8, j) == t->after[j], "a record", "by hand");
+    }
+    /* Every flags byte with strengths in range and out of it. */
+    static const uint8_t bs[5] = { 0, 1, 2, 3, 255 };
+    static uint8_t list[256 * 25 * 8];
+    for (int i = 0; i < 256 * 25; i++) {
+        uint8_t *record = list + 8 * i;
+        memset(record, i % 251, 8);
+        record[1] = (uint8_t)(i / 25), record[2] = bs[i / 5 % 5], record[3] = bs[i % 5];
+    }
+    convert("every flags byte", list, sizeof list, sizeof list);
+    printf("records converted, one by one and every flags byte\n");
+}
+
+/* Lists of up to nine records and a part of one, into as many bytes, fewer and more; null where there are none. */
+static void converted_lengths(void) {
+    uint8_t list[80];
+    for (size_t i = 0; i < sizeof list; i++) list[i] = (uint8_t)(i % 8 == 1 ? i / 8 : 200 - i);
+    for (size_t count = 0; count < sizeof list; count++)
+        for (size_t out = 0; out < sizeof list; out++) convert("lengths", list, count, out);
+    printf("lists of 0 to 79 bytes converted into 0 to 79\n");
+}
+
+/* S1 as a box wrote it, with strengths in every cell and edges in one column: refused, and with its list converted
+ * filtered as ever. */
+static void converted_picture(void) {
+    struct Picture p = accepted();
+    for (int i = 0; i < CELLS; i++) cell(&p, i, 0)[2] = cell(&p, i, 0)[3] = 2;
+    run(&p, "9: S1 with strengths in every cell", 9, 0);
+    struct Lent stored = p.lent[CELL];
+    p.lent[CELL] = lend(stored.bytes, OUT_JUNK);
+    uint64_t place;
+    uint32_t number = tinladle_convert_cells(at(&stored), stored.bytes, LENT8(&p, CELL), &place);
+    expect(number == 0 && place == 0, "the conversion", "the answer");
+    run(&p, "S1 with its list converted", 0, 0);
+    expect_step(&p, "S1 with its list converted", 0, HEIGHT);
+    expect_chroma_copied(&p, "S1 with its list converted");
+    give_back(&stored);
+    done(&p);
+}
+
 int main(void) {
     luma_cases();
     chroma_cases();
@@ -360,6 +482,10 @@ int main(void) {
     refused_lists();
     refused_cells();
     refused_samples();
+    strength_cases();
+    converted_records();
+    converted_lengths();
+    converted_picture();
     if (failures) return printf("%d differences\n", failures), 1;
     printf("ok\n");
     return 0;

@@ -14,7 +14,7 @@
 extern "C" {
 #endif
 
-/* A PICTURE, AS EVERY FUNCTION HERE TAKES IT
+/* A PICTURE, AS THE FUNCTIONS HERE TAKE IT
  *
  * Nine settings and seven lists that are read, in this order. Every value of every argument is allowed: what is not a
  * picture is refused, with a number. All lengths are counted in elements.
@@ -39,12 +39,13 @@ extern "C" {
  *   0     QP plus 64; the QP is from -6 * (luma_depth - 8) to 51
  *   1     bit 0: an edge on its left side; bit 1: an edge on its top side; bit 2: lossless; bit 3: PCM; bit 4: palette;
  *         the others 0
- *   2     bS of the edge on its left side, 0 to 2
- *   3     bS of the edge on its top side, 0 to 2
+ *   2     vertical bS, that of the edge on its left side: 0 to 2, and above 0 only where bit 0 is set
+ *   3     horizontal bS, that of the edge on its top side: 0 to 2, and above 0 only where bit 1 is set
  *   4, 5  number of its slice, low byte first
  *   6, 7  0
  * A cell that is lossless or palette, or PCM where pcm_loop_filter_disabled is set, keeps its original samples in every
- * plane. Its edges are filtered all the same, for the samples on their other side.
+ * plane. Its edges are filtered all the same, for the samples on their other side. A list that was stored before a bS
+ * above 0 needed its edge bit is converted by tinladle_convert_cells, below.
  *
  * The 4 bytes of a slice:
  *   0     1 where the left and top edges of its cells are not filtered, else 0
@@ -82,7 +83,8 @@ extern "C" {
  *   7   a slice out of range                                            the first such slice
  *   8   a tile start out of rule: the first not 0, one not above the    the first such entry, the rows numbered on
  *       one before, or one past the picture's last CTB                  after the columns
- *   9   a cell out of range, or its slice not in the list               the first such cell
+ *   9   a cell out of range, a bS above 0 without its edge bit, or      the first such cell
+ *       a cell's slice not in the list
  *   10  an original sample above 2^depth - 1                            the first such, counted through y, cb, cr
  *
  * On a refusal, any number but 0, nothing but *place is written.
@@ -114,6 +116,23 @@ uint32_t tinladle_deblock(
     const uint16_t *tile_columns, size_t columns_len, const uint16_t *tile_rows, size_t rows_len,
     uint16_t *out_y, size_t out_y_len, uint16_t *out_cb, size_t out_cb_len, uint16_t *out_cr, size_t out_cr_len,
     uint64_t *place);
+
+/* Converts a stored list of cells to the rule that a bS above 0 needs its edge bit: in each whole record the vertical
+ * bS becomes 0 where bit 0 of the flags is clear, and the horizontal bS where bit 1 is, whatever else the record holds.
+ * Every other byte is copied, and so are the 1 to 7 bytes after the last whole record, where there are some.
+ *
+ *   cells, cells_len          the list; of any length, with any bytes
+ *   out_cells, out_cells_len  where the converted list goes; as long as cells, and not cells itself: no list is
+ *                             converted in place
+ *   place                     where 0 is stored, always
+ *
+ * Returned is 0, and out_cells holds the converted list; or 6 where the two lengths differ, and it holds what it held.
+ * No picture is taken and no record refused. A list in rule stays the same, so converting twice is converting once. A
+ * picture that was accepted before the rule came is accepted with its list converted, and its output planes are the
+ * same.
+ */
+uint32_t tinladle_convert_cells(
+    const uint8_t *cells, size_t cells_len, uint8_t *out_cells, size_t out_cells_len, uint64_t *place);
 
 #ifdef __cplusplus
 }

@@ -1,5 +1,7 @@
 // The filter for programs in other languages, under C's calling convention: a module for each function.
 // include/tinladle.h declares them.
+mod cells;
 mod deblock;
 
+pub use cells::tinladle_convert_cells;
 pub use deblock::tinladle_deblock;
