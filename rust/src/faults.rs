@@ -5,7 +5,7 @@
 
 use crate::counted::counted;
 use crate::picture::Picture;
-use crate::records::{Cell, FLAGS, Slice};
+use crate::records::{FLAGS, LEFT_EDGE, Slice, TOP_EDGE};
 use crate::refusal::Cause;
 use crate::settings::{Plane, Settings};
 
@@ -109,8 +109,17 @@ fn tile_start(picture: &Picture<'_>, place: u64) -> String {
     }
 }
 
+/// A strength that has no edge flag, or is out of range with it.
+fn strength(kind: &str, bs: u8, has_edge: bool) -> (bool, String) {
+    if bs > 0 && !has_edge {
+        (true, format!("{kind} bS {bs} without its edge flag"))
+    } else {
+        (bs > 2, format!("{kind} bS {bs}"))
+    }
+}
+
 fn cell(picture: &Picture<'_>, place: u64) -> String {
-    let Some([qp, flags, left, top, low, high, six, seven]) = record::<{ Cell::BYTES }>(picture.cells, place) else {
+    let Some([qp, flags, vertical, horizontal, low, high, six, seven]) = record(picture.cells, place) else {
         return String::new();
     };
     // Refusal 3 comes first, so the depth is in range here.
@@ -123,8 +132,8 @@ fn cell(picture: &Picture<'_>, place: u64) -> String {
     those([
         (i64::from(qp) < lowest || qp > 64 + 51, format!("QP byte {qp}")),
         (flags & !FLAGS != 0, format!("flags byte {flags}")),
-        (left > 2, format!("left bS {left}")),
-        (top > 2, format!("top bS {top}")),
+        strength("vertical", vertical, flags & LEFT_EDGE != 0),
+        strength("horizontal", horizontal, flags & TOP_EDGE != 0),
         (usize::from(own) >= slices, slice),
         (six != 0, format!("byte 6 is {six}")),
         (seven != 0, format!("byte 7 is {seven}")),

@@ -1,5 +1,5 @@
 //! The calls into the proved library, made safe by their signatures. The crate's unsafe code, without the tool's, is
-//! the one call in the macro and, in library.rs, the declarations of what it calls.
+//! the two calls here, one of them in the macro, and, in library.rs, the declarations of what they call.
 
 #![allow(unsafe_code)]
 
@@ -60,4 +60,32 @@ macro_rules! of_a_picture {
 of_a_picture! {
     /// The stage: on 0 the outputs hold the filtered planes, else what they held.
     fn tinladle_deblock(reads() writes(out_y: u16, out_cb: u16, out_cr: u16) stores());
+}
+
+/// The conversion of a cell list: on 0 `out` holds the converted list; on 6, where it is not as long, what it held.
+pub(crate) fn tinladle_convert_cells(cells: &[u8], out: &mut [u8]) -> (u32, u64) {
+    let mut place = 0;
+    // SAFETY: as above. Both pointers are their slice's own, with its length, and `out` and `place` overlap nothing.
+    let number = unsafe {
+        library::tinladle_convert_cells(cells.as_ptr(), cells.len(), out.as_mut_ptr(), out.len(), &mut place)
+    };
+    (number, place)
+}
+
+#[cfg(test)]
+mod tests {
+    use super::*;
+
+    #[test]
+    fn lists_of_two_lengths_are_not_converted() {
+        let record = [101, 0, 2, 2, 0, 0, 0, 0];
+        for (length, out_length) in [(8, 7), (7, 8), (8, 0), (0, 8), (1, 0), (0, 1), (8, 16)] {
+            let mut out = vec![0xA5; out_length];
+            assert_eq!(tinladle_convert_cells(&record[..length], &mut out), (6, 0), "{length} into {out_length}");
+            assert_eq!(out, vec![0xA5; out_length]);
+        }
+        let mut out = [0xA5; 8];
+        assert_eq!(tinladle_convert_cells(&record, &mut out), (0, 0));
+        assert_eq!(out, [101, 0, 0, 0, 0, 0, 0, 0]);
+    }
 }

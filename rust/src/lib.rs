@@ -50,6 +50,14 @@
 //!   (`loop_filter_across_tiles_enabled_flag` 1) is passed as one tile: `&[0]` in [`Picture::tile_columns`] and in
 //!   [`Picture::tile_rows`].
 //!
+//! # A strength needs its edge
+//!
+//! In a cell record a vertical bS above 0, that of the edge on the left side, needs flag bit 0, and a horizontal bS
+//! above 0, that of the edge on the top side, flag bit 1; else the picture is refused ([`Cause::Cell`]). A [`Cell`]
+//! always obeys. A list that was stored before the rule is converted by [`convert_cells`], which sets each strength
+//! without its edge flag to 0: a picture that was accepted before is accepted with the converted list, and its output
+//! planes are the same.
+//!
 //! # Without slice records
 //!
 //! An empty [`Picture::slices`] stands for one slice, [`Slice::of_empty_list`]: filtered, across its borders too, with
@@ -109,4 +117,27 @@ pub fn deblock(picture: &Picture<'_>, out: &mut Planes<'_>) -> Result<(), Refusa
     let answer = ffi::tinladle_deblock(picture, out.y, out.cb, out.cr);
     let lengths = [out.y.len(), out.cb.len(), out.cr.len()];
     Refusal::or_accepted(answer, |cause, place| faults::detail(cause, place, picture, lengths))
+}
+
+/// A stored cell list as [the rule](crate#a-strength-needs-its-edge) wants it: each strength without its edge flag is
+/// 0, and all else is copied. A call of the proved C function `tinladle_convert_cells`.
+///
+/// A list of any length and any bytes is converted, and no record is refused; the 1 to 7 bytes of a partial last record
+/// are copied. A list in rule stays the same, so that converting twice is converting once.
+///
+/// ```
+/// use tinladle::{Bs, Cell, convert_cells};
+///
+/// let in_rule = Cell::new(37)?.left_edge(Bs::Two).to_bytes();
+/// let mut stored = in_rule;
+/// stored[3] = 1; // a horizontal bS, with no edge on the top side
+/// assert_eq!(convert_cells(&stored)?, in_rule);
+/// assert_eq!(convert_cells(&in_rule)?, in_rule);
+/// # Ok::<(), Box<dyn std::error::Error>>(())
+/// ```
+pub fn convert_cells(cells: &[u8]) -> Result<Vec<u8>, OutOfMemory> {
+    let mut converted = memory::filled(cells.len(), 0)?;
+    let answer = ffi::tinladle_convert_cells(cells, &mut converted);
+    assert_eq!(answer, (0, 0), "the library converts into a list of the same length: its contract");
+    Ok(converted)
 }

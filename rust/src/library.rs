@@ -36,3 +36,14 @@ of_a_picture! {
         out_cr_len: usize,
     );
 }
+
+// What takes no picture.
+unsafe extern "C" {
+    pub fn tinladle_convert_cells(
+        cells: *const u8,
+        cells_len: usize,
+        out_cells: *mut u8,
+        out_cells_len: usize,
+        place: *mut u64,
+    ) -> u32;
+}

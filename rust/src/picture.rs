@@ -16,6 +16,9 @@ pub struct Picture<'a> {
     /// The original Cr samples, likewise.
     pub cr: &'a [u16],
     /// The cell records, 8 bytes each: [`Cells::as_bytes`](crate::Cells::as_bytes).
+    ///
+    /// **A bS above 0 needs its edge flag.** A list that was stored before this rule is brought into it by
+    /// [`convert_cells`](crate::convert_cells).
     pub cells: &'a [u8],
     /// The slice records, 4 bytes each: [`Slices::as_bytes`](crate::Slices::as_bytes).
     ///

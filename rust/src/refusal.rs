@@ -38,7 +38,8 @@ causes! {
     Slice = 7,
     /// 8: a tile start out of rule; the place is the first such entry, the rows numbered on after the columns.
     TileStart = 8,
-    /// 9: a cell out of range, or its slice not in the list; the place is the first such cell.
+    /// 9: a cell out of range, with a bS above 0 that lacks its edge flag, or with a slice not in the list; the place
+    /// is the first such cell.
     Cell = 9,
     /// 10: an original sample above its largest; the place is the first such, counted through Y, Cb, Cr.
     Sample = 10,
@@ -110,7 +111,7 @@ impl fmt::Display for Refusal {
             Cause::Length => f.write_str("a plane or list is not of its length"),
             Cause::Slice => write!(f, "slice {} is out of range", self.place),
             Cause::TileStart => write!(f, "tile start {} is out of rule", self.place),
-            Cause::Cell => write!(f, "cell {} is out of range", self.place),
+            Cause::Cell => write!(f, "cell {} is out of rule", self.place),
             Cause::Sample => write!(f, "sample {} is above its largest", self.place),
         }?;
         if self.detail.is_empty() { Ok(()) } else { write!(f, ": {}", self.detail) }

@@ -82,7 +82,7 @@ fn palette_cells_are_told_and_drawn() {
     assert_eq!((pixel(7), pixel(8), pixel(15)), (vec![33, 33 + 96, 33], vec![255, 64, 64], vec![34; 3]));
     picture.cells[1] |= 32;
     store(&at.join("c.pic"), picture);
-    let refused = "c.pic: refused 9: cell 0 is out of range: flags byte 51\n";
+    let refused = "c.pic: refused 9: cell 0 is out of rule: flags byte 51\n";
     assert_eq!(tinladle(&at, &["check", "c.pic"]).out, refused);
 }
 
@@ -99,8 +99,14 @@ fn bad_files_get_one_line() {
         ("missing.pic", "cannot be read: No such file or directory (os error 2)"),
     ];
     for (file, why) in cases {
-        for words in [&["check", file][..], &["tiles", file], &["deblock", file, "out"], &["picture", file, "out.ppm"]]
-        {
+        let verbs: [&[&str]; 5] = [
+            &["check", file],
+            &["tiles", file],
+            &["deblock", file, "out"],
+            &["picture", file, "out.ppm"],
+            &["convert", file, "out"],
+        ];
+        for words in verbs {
             let ran = tinladle(&at, words);
             assert_eq!((ran.status, ran.out.as_str()), (2, ""), "{words:?}");
             assert_eq!(ran.err, format!("tinladle: {file}: {why}\n"), "{words:?}");
@@ -146,7 +152,7 @@ fn the_worst_status_counts() {
     fs::write(at.join("bad.pic"), "").unwrap();
     let ran = tinladle(&at, &["check", "good.pic"]);
     assert_eq!((ran.status, ran.out.as_str()), (0, "good.pic: accepted\n"));
-    let both = "refused.pic: refused 9: cell 2 is out of range: QP byte 63\ngood.pic: accepted\n";
+    let both = "refused.pic: refused 9: cell 2 is out of rule: QP byte 63\ngood.pic: accepted\n";
     let ran = tinladle(&at, &["check", "refused.pic", "good.pic", "--jobs", "2"]);
     assert_eq!((ran.status, ran.out.as_str(), ran.err.as_str()), (1, both, ""));
     let ran = tinladle(&at, &["check", "bad.pic", "refused.pic", "good.pic"]);

@@ -140,7 +140,7 @@ fn row_8_columns_0_2_2() {
 #[test]
 fn row_9_cell_2_has_qp_byte_63() {
     let picture = with(small(), |p| p.cells[2 * Cell::BYTES] = 63);
-    refused(&picture, 9, 2, "refused 9: cell 2 is out of range: QP byte 63");
+    refused(&picture, 9, 2, "refused 9: cell 2 is out of rule: QP byte 63");
 }
 
 #[test]
@@ -149,8 +149,8 @@ fn row_9_the_other_bytes() {
     let details = [
         "QP byte 116",
         "flags byte 32",
-        "left bS 3",
-        "top bS 255",
+        "vertical bS 3 without its edge flag",
+        "horizontal bS 255 without its edge flag",
         "slice 1 of 1",
         "slice 256 of 1",
         "byte 6 is 7",
@@ -158,7 +158,7 @@ fn row_9_the_other_bytes() {
     ];
     for (i, (byte, detail)) in bytes.into_iter().zip(details).enumerate() {
         let picture = with(colour(), |p| p.cells[5 * Cell::BYTES + i] = byte);
-        refused(&picture, 9, 5, &format!("refused 9: cell 5 is out of range: {detail}"));
+        refused(&picture, 9, 5, &format!("refused 9: cell 5 is out of rule: {detail}"));
     }
     // Only slice 0 is in an empty list.
     let picture = with(small(), |p| {
@@ -166,12 +166,58 @@ fn row_9_the_other_bytes() {
         p.cells[3 * Cell::BYTES + 4] = 1;
     });
     let why = "slice 1, and without slice records there is slice 0 alone";
-    refused(&picture, 9, 3, &format!("refused 9: cell 3 is out of range: {why}"));
+    refused(&picture, 9, 3, &format!("refused 9: cell 3 is out of rule: {why}"));
     // What a cell alone cannot know: QP -1 is for depths above 8.
     let mut picture = flat(small().settings, Cell::new(-1).unwrap());
-    refused(&picture, 9, 0, "refused 9: cell 0 is out of range: QP byte 63");
+    refused(&picture, 9, 0, "refused 9: cell 0 is out of rule: QP byte 63");
     picture.settings.luma_depth = 9;
     assert!(run(&picture).is_ok());
+}
+
+/// Document 02's C-14: the flags, the vertical and the horizontal bS of a cell, and what is wrong with them.
+const STRENGTHS: [([u8; 3], &str); 15] = [
+    ([0, 0, 0], ""),
+    ([1, 2, 0], ""),
+    ([2, 0, 2], ""),
+    ([3, 1, 2], ""),
+    ([31, 2, 1], ""),
+    ([0, 2, 0], "vertical bS 2 without its edge flag"),
+    ([2, 1, 2], "vertical bS 1 without its edge flag"),
+    ([30, 1, 0], "vertical bS 1 without its edge flag"),
+    ([0, 0, 2], "horizontal bS 2 without its edge flag"),
+    ([1, 1, 1], "horizontal bS 1 without its edge flag"),
+    ([29, 0, 1], "horizontal bS 1 without its edge flag"),
+    ([28, 2, 1], "vertical bS 2 without its edge flag, horizontal bS 1 without its edge flag"),
+    // Out of range with their flags.
+    ([3, 3, 0], "vertical bS 3"),
+    ([3, 2, 255], "horizontal bS 255"),
+    ([1, 3, 3], "vertical bS 3, horizontal bS 3 without its edge flag"),
+];
+
+#[test]
+fn row_9_a_strength_needs_its_edge() {
+    for (bytes, detail) in STRENGTHS {
+        let picture = with(colour(), |p| p.cells[7 * Cell::BYTES + 1..][..3].copy_from_slice(&bytes));
+        if detail.is_empty() {
+            assert_eq!(run(&picture).unwrap(), picture.planes, "{bytes:?}: flat, so nothing moves");
+        } else {
+            refused(&picture, 9, 7, &format!("refused 9: cell 7 is out of rule: {detail}"));
+        }
+    }
+}
+
+#[test]
+fn row_9_the_first_cell_for_whichever_reason() {
+    let (qp, bs) = ("QP byte 63", "vertical bS 1 without its edge flag");
+    for (qp_at, bs_at, place, detail) in
+        [(2, 5, 2, qp.to_string()), (5, 2, 2, bs.to_string()), (3, 3, 3, format!("{qp}, {bs}"))]
+    {
+        let picture = with(colour(), |p| {
+            p.cells[qp_at * Cell::BYTES] = 63;
+            p.cells[bs_at * Cell::BYTES + 2] = 1;
+        });
+        refused(&picture, 9, place, &format!("refused 9: cell {place} is out of rule: {detail}"));
+    }
 }
 
 #[test]

@@ -18,9 +18,8 @@ fn limited(at: &Path, mib: usize, words: &[&str]) -> Ran {
     through_shell(at, &format!("ulimit -v {} && exec \"$@\"", 1024 * mib), words)
 }
 
-/// A file of a picture of 4096 by 4096, luma alone: 32 MiB of samples, 8 MiB of cells. It is a hole but for its head.
-fn store_large(path: &Path) {
-    let (samples, cells) = (4096 * 4096, 1024 * 1024 * 8);
+/// A file of a picture of 4096 by 4096, luma alone, with lists of these lengths. It is a hole but for its head.
+fn store_hole(path: &Path, samples: u32, cells: u32) {
     let head = [0x5348_4C54, 4096, 4096, 0, 8, 8, 4, 0, 0, 0, samples, 0, 0, samples, 0, 0, cells, 4, 1, 1];
     let mut file = File::create(path).unwrap();
     file.write_all(&head.map(u32::to_le_bytes).concat()).unwrap();
@@ -30,15 +29,17 @@ fn store_large(path: &Path) {
 #[test]
 fn a_picture_that_is_too_large_is_told_by_its_name() {
     let at = folder("large");
-    store_large(&at.join("large.pic"));
+    // 32 MiB of samples, 8 MiB of cells.
+    store_hole(&at.join("large.pic"), 4096 * 4096, 1024 * 1024 * 8);
     store(&at.join("small.pic"), s1());
     let why = "tinladle: large.pic: cannot be read: not enough memory for 33554432 bytes\n";
-    let verbs: [&[&str]; 5] = [
+    let verbs: [&[&str]; 6] = [
         &["check", "large.pic"],
         &["tiles", "large.pic"],
         &["deblock", "large.pic", "out.pic"],
         &["picture", "large.pic", "out.ppm"],
         &["diff", "small.pic", "large.pic"],
+        &["convert", "large.pic", "out.pic"],
     ];
     for words in verbs {
         let ran = limited(&at, 24, words);
@@ -49,7 +50,7 @@ fn a_picture_that_is_too_large_is_told_by_its_name() {
     assert_eq!((ran.status, ran.out.as_str(), ran.err.as_str()), (2, "small.pic: accepted\n", why));
     // It is the limit alone. The cells have QP byte 0.
     let ran = tinladle(&at, &["check", "large.pic"]);
-    assert_eq!((ran.status, ran.out.as_str()), (1, "large.pic: refused 9: cell 0 is out of range: QP byte 0\n"));
+    assert_eq!((ran.status, ran.out.as_str()), (1, "large.pic: refused 9: cell 0 is out of rule: QP byte 0\n"));
 }
 
 /// What is said besides how far the work is, which a slow machine tells.
@@ -79,6 +80,28 @@ fn whatever_there_is_no_memory_for_is_told_in_one_line() {
     }
     let wanted = ["cannot be filtered", "cannot be read", "tile column 0, row 0 cannot be filtered alone"];
     assert_eq!(lacking, BTreeSet::from(wanted.map(String::from)));
+}
+
+#[test]
+fn a_list_that_there_is_no_memory_to_convert_is_told() {
+    let at = folder("no_room");
+    // 8 MiB of cells, which are read and then converted into as many.
+    store_hole(&at.join("a.pic"), 0, 1024 * 1024 * 8);
+    let mut lacking = BTreeSet::new();
+    for mib in (10..=40).step_by(2) {
+        let ran = limited(&at, mib, &["convert", "a.pic", "b.pic"]);
+        assert_eq!(at.join("b.pic").exists(), ran.status == 0, "{mib} MiB: {}", ran.err);
+        if ran.status == 0 {
+            fs::remove_file(at.join("b.pic")).unwrap();
+            continue;
+        }
+        let [line] = complaints(&ran)[..] else { panic!("{mib} MiB: {}", ran.err) };
+        lacking.insert(line.to_string());
+    }
+    let wanted = ["converted", "read"]
+        .map(|done| format!("tinladle: a.pic: cannot be {done}: not enough memory for 8388608 bytes"));
+    assert_eq!(lacking, BTreeSet::from(wanted));
+    assert_eq!(tinladle(&at, &["convert", "a.pic", "b.pic"]).status, 0, "it is the limit alone");
 }
 
 #[test]

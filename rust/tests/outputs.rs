@@ -14,7 +14,7 @@ fn a_refusal_leaves_the_output_alone() {
     fs::write(at.join("b.pic"), "what was there").unwrap();
     for output in ["b.pic", "new.pic"] {
         let ran = tinladle(&at, &["deblock", "a.pic", output]);
-        assert_eq!(ran.out, "a.pic: refused 9: cell 2 is out of range: QP byte 63\n");
+        assert_eq!(ran.out, "a.pic: refused 9: cell 2 is out of rule: QP byte 63\n");
         assert_eq!((ran.status, ran.err.as_str()), (1, ""));
     }
     assert_eq!(fs::read_to_string(at.join("b.pic")).unwrap(), "what was there");
@@ -26,9 +26,11 @@ fn an_output_that_cannot_be_written() {
     let at = folder("unwritable");
     store(&at.join("a.pic"), s1());
     fs::create_dir(at.join("folder")).unwrap();
-    let ran = tinladle(&at, &["deblock", "a.pic", "folder"]);
-    assert_eq!(ran.status, 2);
-    assert_eq!(ran.err, "tinladle: folder: cannot be written: it is not a regular file\n");
+    for command in ["deblock", "convert"] {
+        let ran = tinladle(&at, &[command, "a.pic", "folder"]);
+        assert_eq!((ran.status, ran.out.as_str()), (2, ""));
+        assert_eq!(ran.err, "tinladle: folder: cannot be written: it is not a regular file\n");
+    }
     let ran = tinladle(&at, &["picture", "a.pic", "none/a.ppm"]);
     assert_eq!(ran.status, 2);
     assert!(ran.err.starts_with("tinladle: none/a.ppm: cannot be written: "), "{}", ran.err);
@@ -41,16 +43,21 @@ fn an_input_is_never_written_over() {
     let at = folder("same");
     store(&at.join("a.pic"), s1());
     let before = fs::read(at.join("a.pic")).unwrap();
-    for words in [["deblock", "a.pic", "./a.pic"], ["picture", "a.pic", "../same/a.pic"]] {
+    for words in
+        [["deblock", "a.pic", "./a.pic"], ["picture", "a.pic", "../same/a.pic"], ["convert", "a.pic", "a.pic"]]
+    {
         let ran = tinladle(&at, &words);
         assert_eq!(ran.status, 2);
         assert_eq!(ran.err, format!("tinladle: {}: the output is also an input; nothing was done\n", words[2]));
     }
     fs::create_dir(at.join("other")).unwrap();
     store(&at.join("other/a.pic"), s1());
-    let ran = tinladle(&at, &["deblock", "--to", "out", "a.pic", "other/a.pic"]);
-    let why = "tinladle: out/a.pic: the output is also another output; nothing was done\n";
-    assert_eq!((ran.status, ran.err.as_str()), (2, why));
+    for command in ["deblock", "convert"] {
+        let ran = tinladle(&at, &[command, "--to", "out", "a.pic", "other/a.pic"]);
+        let why = "tinladle: out/a.pic: the output is also another output; nothing was done\n";
+        assert_eq!((ran.status, ran.err.as_str()), (2, why));
+    }
+    assert!(!at.join("out").exists());
     assert_eq!(fs::read(at.join("a.pic")).unwrap(), before);
 }
 
@@ -99,8 +106,9 @@ fn a_hard_link_to_an_input_or_another_output_is_refused() {
         fs::hard_link(at.join(file), at.join(link)).unwrap();
     }
     symlink("same.pic", at.join("link.pic")).unwrap();
-    let cases: [(&[&str], &str); 4] = [
+    let cases: [(&[&str], &str); 5] = [
         (&["deblock", "a.pic", "same.pic"], "same.pic"),
+        (&["convert", "a.pic", "same.pic"], "same.pic"),
         (&["deblock", "a.pic", "link.pic"], "link.pic"),
         (&["picture", "a.pic", "same.ppm"], "same.ppm"),
         // What is made of b.pic would replace the file that is a.pic's.
@@ -152,7 +160,9 @@ fn a_link_that_leads_nowhere_is_refused() {
     store(&at.join("b.pic"), s1());
     symlink("none.pic", at.join("link.pic")).unwrap();
     symlink("loop.pic", at.join("loop.pic")).unwrap();
-    for (command, link) in [("deblock", "link.pic"), ("picture", "link.pic"), ("deblock", "loop.pic")] {
+    for (command, link) in
+        [("deblock", "link.pic"), ("picture", "link.pic"), ("convert", "link.pic"), ("deblock", "loop.pic")]
+    {
         let ran = tinladle(&at, &[command, "a.pic", link]);
         let why = format!("tinladle: {link}: the output is a link that leads to no file; nothing was done\n");
         assert_eq!((ran.status, ran.out, ran.err), (2, String::new(), why));
@@ -173,7 +183,9 @@ fn a_write_protected_file_is_not_replaced() {
     symlink("b.ppm", at.join("link.pic")).unwrap();
     let set = |mode| fs::set_permissions(at.join("b.ppm"), fs::Permissions::from_mode(mode)).unwrap();
     set(0o444);
-    for (command, output) in [("deblock", "b.ppm"), ("picture", "b.ppm"), ("deblock", "link.pic")] {
+    for (command, output) in
+        [("deblock", "b.ppm"), ("picture", "b.ppm"), ("convert", "b.ppm"), ("deblock", "link.pic")]
+    {
         let ran = tinladle(&at, &[command, "a.pic", output]);
         let why = format!("tinladle: {output}: cannot be written: it is write-protected\n");
         assert_eq!((ran.status, ran.out, ran.err), (2, String::new(), why));

@@ -26,7 +26,7 @@ fn with_streams(at: &Path, streams: &str, words: &[&str]) -> Ran {
     through_shell(at, &format!("exec \"$@\" {streams}"), words)
 }
 
-const VERBS: [&[&str]; 7] = [
+const VERBS: [&[&str]; 8] = [
     &["--help"],
     &["--version"],
     &["check", "a.pic", "a.pic"],
@@ -34,6 +34,7 @@ const VERBS: [&[&str]; 7] = [
     &["tiles", "a.pic"],
     &["deblock", "a.pic", "b.pic"],
     &["picture", "a.pic", "b.ppm"],
+    &["convert", "a.pic", "c.pic"],
 ];
 
 #[test]

@@ -24,12 +24,11 @@ fn help_and_version() {
     }
 }
 
-/// The verb, how many arguments its line in the help has, and whether the last stands for more.
-fn line_of_help(line: &str) -> Option<(&str, usize, bool)> {
+/// The verb and what its line in the help has after it.
+fn line_of_help(line: &str) -> Option<(&str, Vec<&str>)> {
     let mut words = line.strip_prefix("  tinladle ")?.split("  ").next()?.split(' ');
     let verb = words.next().filter(|verb| !verb.starts_with('-'))?;
-    let arguments: Vec<&str> = words.collect();
-    Some((verb, arguments.len(), arguments.last()?.ends_with("...")))
+    Some((verb, words.collect()))
 }
 
 #[test]
@@ -39,10 +38,11 @@ fn each_line_of_the_help_is_what_the_verb_takes() {
     let lines: Vec<_> = help.lines().filter_map(line_of_help).collect();
     assert_eq!(
         lines.iter().map(|line| line.0).collect::<Vec<_>>(),
-        ["deblock", "deblock", "check", "diff", "picture", "tiles"]
+        ["deblock", "deblock", "check", "diff", "picture", "tiles", "convert", "convert"]
     );
-    // Of the form with --to its option and value are among the words; the other forms have files alone.
-    for (verb, count, more) in lines.into_iter().filter(|&(verb, count, _)| (verb, count) != ("deblock", 3)) {
+    // The forms with --to have an option and its value among the words; the others have files alone.
+    for (verb, words) in lines.into_iter().filter(|line| line.1[0] != "--to") {
+        let (count, more) = (words.len(), words.iter().any(|word| word.ends_with("...")));
         for given in 0..5 {
             let files = ["none.ppm", "none.ppm", "none.ppm", "none.ppm"];
             let ran = tinladle(&at, &[&[verb][..], &files[..given]].concat());
@@ -80,6 +80,11 @@ const BAD: &[(&[&str], &str)] = &[
     (&["deblock", "a", "b", "c"], "deblock takes IN OUT or --to DIR IN..., and 3 arguments were given"),
     (&["deblock", "--to", "a"], "deblock takes IN OUT or --to DIR IN..., and nothing was given"),
     (&["diff", "a", "b", "c"], "diff takes A B, and 3 arguments were given"),
+    (&["convert"], "convert takes IN OUT or --to DIR IN..., and nothing was given"),
+    (&["convert", "a"], "convert takes IN OUT or --to DIR IN..., and 1 argument was given"),
+    (&["convert", "a", "b", "c"], "convert takes IN OUT or --to DIR IN..., and 3 arguments were given"),
+    (&["convert", "--to", "a"], "convert takes IN OUT or --to DIR IN..., and nothing was given"),
+    (&["convert", "a", "b", "--jobs", "none"], "--jobs none: not a number from 1 to 256"),
     (&["deblock", "--to"], "--to needs a folder"),
     (&["deblock", "--to=", "a"], "--to needs a folder"),
     (&["deblock", "--to", "b", "--to", "c", "a"], "--to is given twice"),

@@ -15,8 +15,8 @@ layout). One without slices is filtered as one slice with tc offset div2 -1. OUT
 not at all, and never over an IN, a write-protected file or what is no regular file. Work of more
 than two seconds tells on standard error how far it is.
 
-Exit status, the worst of all files: 0 accepted, and no difference; 1 refused, or a difference;
-2 a bad file or bad usage, not enough memory, or something that could not be written.
+Exit status, the worst of all files: 0 accepted, and no difference, or converted; 1 refused, or a
+difference; 2 a bad file or bad usage, not enough memory, or something that could not be written.
 ";
 
 /// Rows of two columns, the second aligned and, where it has several lines, hanging.

@@ -1,7 +1,7 @@
 //! The verbs: a row for each form of each. The help, the check of the arguments and the call come from these rows, so
 //! that a new verb is a row here and a function in commands/.
 
-use super::commands::{check, deblock, diff, picture, tiles};
+use super::commands::{check, convert, deblock, diff, picture, tiles};
 use super::options::{JOBS, Opt, TO};
 use super::words::Words;
 use crate::counted::counted;
@@ -71,6 +71,22 @@ pub static VERBS: &[Verb] = &[
         takes: &[&JOBS],
         help: "each tile beside the same tile filtered alone: the samples\nthat differ, which are always 0",
         run: tiles::run,
+    },
+    Verb {
+        name: "convert",
+        needs: None,
+        arguments: "IN OUT",
+        takes: &[&JOBS],
+        help: "copy IN to OUT with each bS set to 0 that has no edge flag",
+        run: convert::run,
+    },
+    Verb {
+        name: "convert",
+        needs: Some(&TO),
+        arguments: "IN...",
+        takes: &[&JOBS],
+        help: "the same for several, each to its own name in DIR",
+        run: convert::run,
     },
 ];
 

@@ -12,13 +12,12 @@ use std::thread::{self, Scope};
 use super::progress::Progress;
 use super::streams::{BAD, complain, print};
 use super::words::Words;
-use tinladle::Refusal;
 
 /// Why a piece of work has no result.
 pub enum Failure {
-    /// The stage refused the file's picture.
-    Refused(String, Refusal),
-    /// The file cannot be used, and why.
+    /// The stage refused the file's picture: a line for standard output.
+    Refused(String),
+    /// The file cannot be used: a line for standard error.
     Bad(String),
 }
 
@@ -33,7 +32,7 @@ pub fn bad(path: &Path, why: impl Display) -> Failure {
 fn show(outcome: Outcome) -> u8 {
     match outcome {
         Ok((text, status)) => status.max(print(&text)),
-        Err(Failure::Refused(file, refusal)) => print(&format!("{file}: {refusal}\n")).max(1),
+        Err(Failure::Refused(line)) => print(&format!("{line}\n")).max(1),
         Err(Failure::Bad(line)) => {
             complain(&line);
             BAD

@@ -14,8 +14,10 @@ pub enum Bs {
     Two,
 }
 
-const LEFT_EDGE: u8 = 1;
-const TOP_EDGE: u8 = 2;
+/// An edge on the left side; without it the vertical bS is 0.
+pub(crate) const LEFT_EDGE: u8 = 1;
+/// An edge on the top side; without it the horizontal bS is 0.
+pub(crate) const TOP_EDGE: u8 = 2;
 const LOSSLESS: u8 = 4;
 const PCM: u8 = 8;
 const PALETTE: u8 = 16;
@@ -28,7 +30,7 @@ pub(crate) fn is_palette(cells: &[u8], number: usize) -> bool {
     cells.get(Cell::BYTES * number + 1).is_some_and(|flags| flags & PALETTE != 0)
 }
 
-/// One 4 by 4 luma block.
+/// One 4 by 4 luma block. Its edges have flag and bS together, so that none of its strengths lacks its flag.
 ///
 /// ```
 /// use tinladle::{Bs, Cell};
@@ -52,7 +54,7 @@ impl Cell {
         Ok(Cell { bytes: [qp, 0, 0, 0, 0, 0, 0, 0] })
     }
 
-    /// With an edge on its left side.
+    /// With an edge on its left side: the flag, and with it the vertical bS.
     ///
     /// Not every such edge is filtered, and none is refused: see [the crate's page](crate#which-edges-are-filtered).
     /// In short, edges lie on the multiples of 8 of each plane's own samples, so that this does nothing in an odd
@@ -65,7 +67,7 @@ impl Cell {
         self
     }
 
-    /// With an edge on its top side.
+    /// With an edge on its top side: the flag, and with it the horizontal bS.
     ///
     /// Not every such edge is filtered, and none is refused: see [the crate's page](crate#which-edges-are-filtered).
     /// In short, edges lie on the multiples of 8 of each plane's own samples, so that this does nothing in an odd row

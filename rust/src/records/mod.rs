@@ -1,7 +1,8 @@
 //! Cell and slice records, typed, so that nobody writes byte offsets by hand.
 //!
-//! A builder cannot make a byte that is out of range by itself. Two bounds it cannot know, and the stage checks them:
-//! the lowest QP of the picture's luma depth, and how many slices there are.
+//! A builder cannot make a byte that is out of range by itself, nor a bS without its edge flag, since an edge sets
+//! both. Two bounds it cannot know, and the stage checks them: the lowest QP of the picture's luma depth, and how many
+//! slices there are.
 
 mod cell;
 mod slice;
@@ -10,7 +11,7 @@ use std::error::Error;
 use std::fmt;
 
 pub use cell::{Bs, Cell, Cells};
-pub(crate) use cell::{FLAGS, is_palette};
+pub(crate) use cell::{FLAGS, LEFT_EDGE, TOP_EDGE, is_palette};
 pub use slice::{Slice, Slices};
 
 /// A value that a record cannot hold.

@@ -10,9 +10,19 @@ fn of(name: &str, file: &str) -> PathBuf {
     Path::new(env!("CARGO_MANIFEST_DIR")).join("../crates").join(name).join(file)
 }
 
+/// What the program of this name reads.
+pub fn input(name: &str) -> Vec<u8> {
+    fs::read(of(name, "stdin")).unwrap()
+}
+
+/// What it is to write.
+pub fn output(name: &str) -> Vec<u8> {
+    fs::read(of(name, "stdout")).unwrap()
+}
+
 /// The pictures that the program of this name reads, and whether a short record follows them.
 pub fn records(name: &str) -> (Vec<StoredPicture>, bool) {
-    let bytes = fs::read(of(name, "stdin")).unwrap();
+    let bytes = input(name);
     let mut rest = &bytes[..];
     let mut pictures = Vec::new();
     while !rest.is_empty() {
@@ -28,9 +38,9 @@ pub fn records(name: &str) -> (Vec<StoredPicture>, bool) {
     (pictures, false)
 }
 
-/// What the program is to print.
+/// What it is to print.
 pub fn expected(name: &str) -> String {
-    fs::read_to_string(of(name, "stdout")).unwrap()
+    String::from_utf8(output(name)).unwrap()
 }
 
 /// FNV-1a of 64 bits, a sample for a byte.

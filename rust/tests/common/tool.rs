@@ -7,7 +7,7 @@ use std::process::{Command, Output};
 
 use super::{edges, flat, samples, small};
 use tinladle::container::StoredPicture;
-use tinladle::{ChromaFormat, PictureBuf, Settings};
+use tinladle::{ChromaFormat, PictureBuf, PlanesBuf, Settings};
 
 /// An empty folder for one test.
 pub fn folder(name: &str) -> PathBuf {
@@ -77,6 +77,25 @@ pub fn s1_filtered() -> PictureBuf {
     let mut picture = s1();
     picture.planes.y = samples(32, 16, |x, _| line[x]);
     picture
+}
+
+/// `s1` as it could be stored before a strength needed its edge flag: cells 7 and 26 have three strengths and no flag.
+/// Refused 9 at cell 7.
+pub fn old_style() -> PictureBuf {
+    let mut picture = s1();
+    for (number, strengths) in [(7, [2, 1]), (26, [2, 0])] {
+        picture.cells[8 * number + 1] = 0;
+        picture.cells[8 * number + 2..][..2].copy_from_slice(&strengths);
+    }
+    picture
+}
+
+/// What the stage left of its samples before the rule, and leaves of the converted picture's: on the last four rows the
+/// step at column 8, the left side of cell 26, has no edge and stays.
+pub fn old_style_filtered() -> PlanesBuf {
+    let (before, mut after) = (s1().planes, s1_filtered().planes);
+    after.y[12 * 32..].copy_from_slice(&before.y[12 * 32..]);
+    after
 }
 
 /// Refused 9 at cell 2.

@@ -14,7 +14,7 @@ use tinladle::cut::{self, CutError, Tile};
 fn failure(input: &Path, tile: &Tile, error: CutError) -> Failure {
     match error {
         CutError::Refused(refusal) => {
-            Failure::Refused(format!("{}: {} cut out", input.display(), name(tile)), refusal)
+            Failure::Refused(format!("{}: {} cut out: {refusal}", input.display(), name(tile)))
         }
         error => bad(input, format_args!("{} cannot be filtered alone: {error}", name(tile))),
     }
