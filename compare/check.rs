@@ -1,10 +1,13 @@
-//! One picture on both sides: the ledger and the stage, and where it is accepted the customer's Rust and the second program.
+//! One picture on both sides: the ledger and the stage, and where it is accepted the customer's Rust and the second program. Where C-14's
+//! rule alone refuses it, all of that on the converted one too.
 
+use crate::conversion;
 use crate::counted::counted;
 use crate::coverage::Coverage;
 use crate::cut;
 use crate::gate;
 use crate::ledger;
+use crate::lists;
 use crate::ours;
 use crate::picture::{PLANE_NAMES, Picture};
 use crate::random::Random;
@@ -23,6 +26,16 @@ pub struct Agreed {
     /// Whether the customer's Rust is not asked here, but the second program alone; and whether the Rust leaves other planes.
     pub left_out: bool,
     pub parted: bool,
+    /// What the customer's Rust left.
+    theirs: [Vec<u16>; 3],
+}
+
+/// What was found of a picture, accepted or not, on which both sides agree.
+pub struct Found {
+    /// Of an accepted picture; where C-14's rule alone refuses the picture, of the converted one. `None` stands for any other refusal.
+    pub agreed: Option<Agreed>,
+    /// Strengths that had no edge, where C-14's rule alone refuses the picture.
+    pub zeroed: u64,
 }
 
 /// The first sample that differs, with both values.
@@ -117,15 +130,43 @@ fn check_accepted(p: &Picture, planes: &[Vec<u16>; 3], rust: &mut Rust, random: 
     check_fallback(known, &theirs, rust)?;
     same_counts(&coverage, &calls)?;
     let moved = [0, 1, 2].map(|k| planes[k].iter().zip(&p.planes[k]).filter(|(a, b)| a != b).count() as u64);
-    Ok(Agreed { coverage, calls, moved, tiles, absent_grid, left_out, parted: *planes != theirs })
+    Ok(Agreed { coverage, calls, moved, tiles, absent_grid, left_out, parted: *planes != theirs, theirs })
 }
 
-/// Both sides on one picture, accepted or not. `None` stands for a refusal on which they agree; an error says what differs.
-pub fn check(p: &Picture, rust: &mut Rust, random: &mut Random) -> Result<Option<Agreed>, String> {
+/// Both sides on one picture as it is, and the planes that the stage leaves. `None` stands for a refusal on which they agree.
+fn check_as_it_is(p: &Picture, rust: &mut Rust, random: &mut Random) -> Result<(Option<Agreed>, [Vec<u16>; 3]), String> {
     let planes = answered(p, random)?;
     let accepted = ledger::verdict(p) == (0, 0);
     let agreed = if accepted { Some(check_accepted(p, &planes, rust, random)?) } else { None };
     check_form(p, &planes, p.outright(), "the explicit slice record", random)?;
     check_form(p, &planes, p.turned(), "lossless for palette", random)?;
-    Ok(agreed)
+    Ok((agreed, planes))
+}
+
+/// The customer's Rust and the second program on the picture as it was, beside what the stage and the Rust leave of the converted one.
+fn check_unconverted(p: &Picture, converted: &Agreed, planes: &[Vec<u16>; 3], rust: &mut Rust) -> Result<(), String> {
+    let turned = p.turned();
+    let (theirs, calls) = rust.run(turned.as_ref().unwrap_or(p), Grid::Given)?;
+    if !converted.left_out {
+        same_planes(p, planes, &theirs, "Rust on the unconverted")?;
+    }
+    let counts = |calls: &Calls| [calls.strong, calls.weak, calls.chroma];
+    if theirs != converted.theirs || counts(&calls) != counts(&converted.calls) {
+        return Err("the customer's Rust filters the unconverted picture otherwise than the converted one".into());
+    }
+    same_planes(p, planes, &standard::deblocked(p), "second program on the unconverted")
+}
+
+/// Both sides on one picture, accepted or not, and on its cell list. An error says what differs.
+pub fn check(p: &Picture, rust: &mut Rust, random: &mut Random) -> Result<Found, String> {
+    let (agreed, _) = check_as_it_is(p, rust, random)?;
+    lists::check(&p.cells, p.cells.len(), random)?;
+    if agreed.is_some() || ledger::verdict_before(p) != (0, 0) {
+        return Ok(Found { agreed, zeroed: 0 });
+    }
+    let converted = conversion::picture(p.clone());
+    let (agreed, planes) = check_as_it_is(&converted, rust, random).map_err(|what| format!("converted: {what}"))?;
+    let agreed = agreed.ok_or("the ledger refuses the converted picture")?;
+    check_unconverted(p, &agreed, &planes, rust)?;
+    Ok(Found { agreed: Some(agreed), zeroed: conversion::zeroed(&p.cells, &converted.cells) })
 }

@@ -1,6 +1,7 @@
-//! Accepted pictures, at random.
+//! Pictures at random: accepted ones, and accepted but for strengths without an edge.
 
 use crate::content;
+use crate::conversion;
 use crate::picture::{CELL_BYTES, HORIZONTAL, LOSSLESS, PALETTE, PCM, Picture, VERTICAL};
 use crate::random::Random;
 
@@ -47,6 +48,11 @@ fn offset(random: &mut Random) -> i32 {
 
 /// An accepted picture.
 pub fn accepted(random: &mut Random, size: Sizes) -> Picture {
+    conversion::picture(drawn(random, size))
+}
+
+/// A picture as boxes wrote it before C-14: edge flags and strengths are drawn apart. It is accepted once it is converted.
+pub fn drawn(random: &mut Random, size: Sizes) -> Picture {
     let (width, height) = sizes(random, size);
     let mut p = Picture {
         width,

@@ -1,14 +1,26 @@
 //! The refusal ledger of document 01 in Rust: which number and place a picture is answered with.
 //!
-//! Written from document 01, and C-19 of document 02 for flag bit 4, alone. It shares nothing with the stage, nor with the customer's Rust,
-//! which refuses nothing.
+//! Written from document 01, and from document 02 C-19 for flag bit 4 and C-14 for strengths without an edge, alone. It shares nothing with
+//! the stage, nor with the customer's Rust, which refuses nothing.
 
 use crate::picture::{CELL_BYTES, Picture, SLICE_BYTES};
 
 /// Number and place; (0, 0) for an accepted picture.
 pub type Verdict = (u32, u64);
 
+/// What a cell record must not be besides out of range.
+type Against = fn(&[u8]) -> bool;
+
 pub fn verdict(p: &Picture) -> Verdict {
+    with_rule(p, edgeless)
+}
+
+/// The verdict without C-14's rule, by which stored pictures were accepted before it.
+pub fn verdict_before(p: &Picture) -> Verdict {
+    with_rule(p, |_| false)
+}
+
+fn with_rule(p: &Picture, against: Against) -> Verdict {
     let settings = bad_setting(p);
     if settings != 0 {
         return (settings, 0);
@@ -16,7 +28,7 @@ pub fn verdict(p: &Picture) -> Verdict {
     if !lengths_exact(p) {
         return (6, 0);
     }
-    let lists = [(7, bad_slice(p)), (8, bad_start(p)), (9, bad_cell(p)), (10, bad_sample(p))];
+    let lists = [(7, bad_slice(p)), (8, bad_start(p)), (9, bad_cell(p, against)), (10, bad_sample(p))];
     for (number, place) in lists {
         if let Some(place) = place {
             return (number, place as u64);
@@ -80,10 +92,21 @@ fn first_bad_start(starts: &[u16], samples: u32, log2_ctb: u32) -> Option<usize>
     (0..starts.len()).find(|&k| !in_order(k) || u32::from(starts[k]) >= ctbs)
 }
 
-fn bad_cell(p: &Picture) -> Option<usize> {
+/// C-14: a vertical bS above 0 needs flag bit 0, a horizontal one bit 1.
+fn edgeless(c: &[u8]) -> bool {
+    (c[2] > 0 && c[1] % 2 == 0) || (c[3] > 0 && c[1] / 2 % 2 == 0)
+}
+
+/// The first whole record of a list that is against C-14's rule.
+pub fn first_edgeless(cells: &[u8]) -> Option<usize> {
+    cells.chunks_exact(CELL_BYTES).position(edgeless)
+}
+
+/// One pass: the first record that is out of range or against the rule.
+fn bad_cell(p: &Picture, against: Against) -> Option<usize> {
     let slices = (p.slices.len() / SLICE_BYTES).max(1);
     let lowest = -6 * (p.luma_depth as i32 - 8);
-    let allowed = |c: &[u8]| {
+    let in_range = |c: &[u8]| {
         (lowest..=51).contains(&(i32::from(c[0]) - 64))
             && c[1] < 32
             && c[2] <= 2
@@ -92,7 +115,7 @@ fn bad_cell(p: &Picture) -> Option<usize> {
             && c[6] == 0
             && c[7] == 0
     };
-    p.cells.chunks(CELL_BYTES).position(|cell| !allowed(cell))
+    p.cells.chunks(CELL_BYTES).position(|cell| !in_range(cell) || against(cell))
 }
 
 /// Counted through Y, Cb, Cr.

@@ -1,5 +1,5 @@
-//! The stage beside the customer's Rust, a second program from H.265 and document 01's refusal ledger, on random pictures. README.md says what is
-//! compared.
+//! The stage beside the customer's Rust, a second program from H.265 and document 01's refusal ledger, on random pictures; and the
+//! conversion of cell lists, on random lists. README.md says what is compared.
 
 #![allow(dead_code)] // not all of the customer's files is called from here
 
@@ -34,14 +34,18 @@ mod theirs;
 
 mod check;
 mod content;
+mod conversion;
 mod coverage;
 mod cut;
 mod damage;
 mod dump;
 mod generate;
+mod guards;
 mod ledger;
+mod lists;
 mod options;
 mod ours;
+mod program;
 mod random;
 mod shrink;
 mod tally;
@@ -52,10 +56,10 @@ use random::Random;
 use tally::Tally;
 use theirs::Rust;
 
-/// A picture on which the two sides differ: its number in the run, and what differs.
+/// Where the two sides differ: the number in the run, the picture if it is one, and what differs.
 struct Difference {
     number: u64,
-    picture: Picture,
+    picture: Option<Picture>,
     what: String,
 }
 
@@ -63,17 +67,17 @@ struct Difference {
 struct Run {
     options: Options,
     next: AtomicU64,
-    /// No picture after this one need be looked at: the run ends at its first difference, whichever thread finds it.
+    /// Nothing after this number need be looked at: the run ends at its first difference, whichever thread finds it.
     last: AtomicU64,
     found: Mutex<Vec<Difference>>,
     tally: Mutex<Tally>,
 }
 
-/// Picture `number` of a run, and the damage done to it. The accepted ones come first.
+/// Picture `number` of a run, and the damage done to it. Those that are accepted, as drawn or converted, come first.
 fn picture(options: &Options, number: u64) -> (Picture, Vec<usize>, Random) {
     let mut random = Random::new(options.seed, 0, number);
     if number < options.accepted {
-        let picture = generate::accepted(&mut random, generate::Sizes::Mixed);
+        let picture = generate::drawn(&mut random, generate::Sizes::Mixed);
         return (picture, vec![], random);
     }
     let (picture, kinds) = damage::damaged(&mut random, number - options.accepted);
@@ -83,11 +87,26 @@ fn picture(options: &Options, number: u64) -> (Picture, Vec<usize>, Random) {
 /// One picture: counted, or what differs.
 fn look_at(picture: &Picture, kinds: &[usize], rust: &mut Rust, random: &mut Random, tally: &mut Tally) -> Result<(), String> {
     let verdict = ledger::verdict(picture);
-    assert_eq!(kinds.is_empty(), verdict == (0, 0), "the generator made another picture than it should");
-    match check::check(picture, rust, random)? {
-        Some(agreed) => tally.count_accepted(picture, &agreed),
-        None => tally.count_refused(picture, verdict, kinds),
+    let accepted = verdict == (0, 0) || kinds.is_empty() && ledger::verdict_before(picture) == (0, 0);
+    assert_eq!(kinds.is_empty(), accepted, "the generator made another picture than it should");
+    let found = check::check(picture, rust, random)?;
+    match &found.agreed {
+        Some(agreed) if accepted => tally.count_accepted(picture, verdict, agreed, found.zeroed),
+        _ => tally.count_refused(picture, verdict, kinds, &found),
     }
+    Ok(())
+}
+
+/// Picture or list `number`: counted, or what differs. After the pictures come as many lists as there are accepted pictures.
+fn look_at_number(options: &Options, number: u64, rust: &mut Rust, tally: &mut Tally) -> Result<(), Difference> {
+    if number < options.accepted + options.damaged {
+        let (picture, kinds, mut random) = picture(options, number);
+        return look_at(&picture, &kinds, rust, &mut random, tally).map_err(|what| Difference { number, picture: Some(picture), what });
+    }
+    let mut random = Random::new(options.seed, 2, number);
+    let (cells, out_length) = lists::list(&mut random);
+    lists::check(&cells, out_length, &mut random).map_err(|what| Difference { number, picture: None, what })?;
+    tally.lists.count(&cells, out_length);
     Ok(())
 }
 
@@ -96,13 +115,12 @@ fn work(run: &Run) {
     let mut tally = Tally::new();
     loop {
         let number = run.next.fetch_add(1, Ordering::Relaxed);
-        if number >= run.options.accepted + run.options.damaged || number > run.last.load(Ordering::Relaxed) {
+        if number >= 2 * run.options.accepted + run.options.damaged || number > run.last.load(Ordering::Relaxed) {
             break;
         }
-        let (picture, kinds, mut random) = picture(&run.options, number);
-        if let Err(what) = look_at(&picture, &kinds, &mut rust, &mut random, &mut tally) {
+        if let Err(difference) = look_at_number(&run.options, number, &mut rust, &mut tally) {
             run.last.fetch_min(number, Ordering::Relaxed);
-            run.found.lock().unwrap().push(Difference { number, picture, what });
+            run.found.lock().unwrap().push(difference);
         }
     }
     run.tally.lock().unwrap().add(&tally);
@@ -110,13 +128,12 @@ fn work(run: &Run) {
 
 /// Shrinks the picture, prints it and writes it as a record.
 fn report(options: &Options, difference: &Difference) {
-    println!("DIFFERENCE at picture {} (seed {}): {}", difference.number, options.seed, difference.what);
-    if !options.shrink {
-        return;
-    }
+    let of = if difference.picture.is_some() { "picture" } else { "list" };
+    println!("DIFFERENCE at {of} {} (seed {}): {}", difference.number, options.seed, difference.what);
+    let Some(picture) = difference.picture.as_ref().filter(|_| options.shrink) else { return };
     let mut rust = Rust::new();
     let mut differs = |p: &Picture| check::check(p, &mut rust, &mut Random::new(0, 1, 0)).err();
-    let small = shrink::shrink(&difference.picture, |p| differs(p).is_some());
+    let small = shrink::shrink(picture, |p| differs(p).is_some());
     println!("the smallest picture found: {}", differs(&small).unwrap_or_default());
     dump::print(&small);
     match std::fs::write(&options.smallest, small.record()) {
@@ -143,8 +160,11 @@ fn main() -> ExitCode {
             return ExitCode::from(2);
         }
     };
-    quiet_customer();
     println!("seed {}", options.seed);
+    if let Some(file) = &options.program {
+        return program::run(file, options.accepted, options.seed);
+    }
+    quiet_customer();
     let threads = options.threads;
     let run = Run {
         options,

@@ -1,5 +1,5 @@
-"""The mutants: each changes one place of the stage's sources, a line for the most part. Where a mutant is argued to change no output,
-`equal` says why, by which theorem where there is one."""
+"""The mutants: each changes one place of the sources, a line for the most part. Where a mutant is argued to change no output, `equal`
+says why, by which theorem where there is one."""
 
 from typing import NamedTuple
 
@@ -173,12 +173,12 @@ CHECKS = [
     Edit("list_checks/tiles", "(total + size - 1) / size", "total / size"),
     Edit("list_checks/tiles", "columns.len() + first_bad_start(rows, size, settings.height)",
          "columns.len() + first_bad_start(rows, size, settings.width)"),
-    Edit("list_checks/cells", "(115 < cell.qp)", "(116 < cell.qp)"),
+    Edit("list_checks/cells", "115 - (least as u32)", "116 - (least as u32)"),
     Edit("list_checks/cells", "(64 - 6 * (depth - 8)) as u8", "(63 - 6 * (depth - 8)) as u8"),
-    Edit("list_checks/cells", "(2 < cell.bsh)", "(3 < cell.bsh)"),
+    Edit("list_checks/cells", "{ 2 } else { 0 }", "{ 3 } else { 0 }"),
     Edit("list_checks/cells", "(31 < cell.flags)", "(63 < cell.flags)"),
-    Edit("list_checks/cells", "(count <= cell.slice as usize)", "(count < cell.slice as usize)"),
-    Edit("list_checks/cells", "(cells[at + 7] != 0)", "(1 < cells[at + 7])"),
+    Edit("list_checks/cells", "slice_end(count) <= (slice as usize)", "slice_end(count) < (slice as usize)"),
+    Edit("list_checks/cells", "16777216 * (seventh as usize)", "16777216 * ((seventh / 2) as usize)"),
     Edit("list_checks/samples", "if largest < plane[k] {", "if largest <= plane[k] {"),
     Edit("list_checks/samples", "while k < 256 {", "while k < 255 {"),
     Edit("list_checks/samples", "return y.len() + in_cb;", "return in_cb;"),
@@ -248,5 +248,90 @@ PALETTE = [
     Edit("list_checks/cells", "(31 < cell.flags)", "(15 < cell.flags)"),
 ]
 
+# The rule of document 02's C-14: left out, of one strength alone, the bits exchanged, either bit enough, only where neither strength has
+# its edge, strength 2 or 1 alone, another bit, a bit that must stand alone, of strength 0 too, not of marked cells, not of the first
+# record; and a pass of its own, after the ranges or before them.
+LEFT, TOP = "bad_strength(cell.bsv, cell.flags % 2 == 1)", "bad_strength(cell.bsh, cell.flags / 2 % 2 == 1)"
+LARGEST = "if edge { 2 } else { 0 }"
+BEGIN = """    let mut n = 0;
+    while n < cells.len() / 8 {
+"""
+RULE = [
+    Edit("list_checks/cells", LARGEST, "if edge { 2 } else { 2 }"),
+    Edit("list_checks/cells", TOP, "bad_strength(cell.bsh, true)"),
+    Edit("list_checks/cells", LEFT, "bad_strength(cell.bsv, true)"),
+    Edit("list_checks/cells", f"{LEFT}\n        | {TOP}",
+         "bad_strength(cell.bsh, cell.flags % 2 == 1)\n        | bad_strength(cell.bsv, cell.flags / 2 % 2 == 1)"),
+    Edit("list_checks/cells", f"{LEFT}\n        | {TOP}",
+         "bad_strength(cell.bsv, 0 < cell.flags % 4)\n        | bad_strength(cell.bsh, 0 < cell.flags % 4)"),
+    Edit("list_checks/cells", f"{LEFT}\n        | {TOP}",
+         f"({LEFT} & {TOP}) | bad_strength(cell.bsv, true) | bad_strength(cell.bsh, true)"),
+    Edit("list_checks/cells", LARGEST, "if edge { 2 } else { 1 }"),
+    Edit("list_checks/cells", LEFT, f"({LEFT} & (cell.bsv != 2))"),
+    Edit("list_checks/cells", "cell.flags / 2 % 2 == 1", "cell.flags / 4 % 2 == 1"),
+    Edit("list_checks/cells", "cell.flags % 2 == 1", "cell.flags % 4 == 1"),
+    Edit("list_checks/cells", LEFT, "(cell.flags % 2 != 1)"),
+    Edit("list_checks/cells", "cell.flags / 2 % 2 == 1", "0 < cell.flags / 2"),
+    Edit("list_checks/cells", TOP, f"({TOP} & (0 < n))"),
+    Edit("list_checks/cells", BEGIN, """    let mut k = 0;
+    while k < cells.len() / 8 {
+        let c = cell_at(cells, k);
+        if bad_qp(c.qp, least) | (31 < c.flags) | (2 < c.bsv) | (2 < c.bsh) | bad_tail(c.slice, cells[8 * k + 6], cells[8 * k + 7], count) {
+            return k;
+        }
+        k += 1;
+    }
+""" + BEGIN),
+    Edit("list_checks/cells", BEGIN, """    let mut k = 0;
+    while k < cells.len() / 8 {
+        let c = cell_at(cells, k);
+        if ((0 < c.bsv) & (c.flags % 2 == 0)) | ((0 < c.bsh) & (c.flags / 2 % 2 == 0)) {
+            return k;
+        }
+        k += 1;
+    }
+""" + BEGIN),
+]
+
+# The conversion of lists (C-14): the bits exchanged, one strength alone, a bit that must stand alone, an edge added in place of the
+# strength taken away, all flags cleared, a strength of 1 kept, or one above 2; the first or the last record left out; a last record that is
+# not whole converted, or not copied; lengths that differ taken for the same; a refusal that writes; the place not stored; and another
+# number.
+KEPT = """kept(flags % 2 == 1, cells[at + 2]);
+    let horizontal = kept(flags / 2 % 2 == 1, cells[at + 3]);"""
+CONVERSION = [
+    Edit("conversion/strengths", KEPT, """kept(flags / 2 % 2 == 1, cells[at + 2]);
+    let horizontal = kept(flags % 2 == 1, cells[at + 3]);"""),
+    Edit("conversion/strengths", "kept(flags % 2 == 1, cells[at + 2])", "cells[at + 2]"),
+    Edit("conversion/strengths", "kept(flags / 2 % 2 == 1, cells[at + 3])", "cells[at + 3]"),
+    Edit("conversion/strengths", "kept(flags % 2 == 1, cells[at + 2])", "kept(flags % 4 == 1, cells[at + 2])"),
+    Edit("conversion/strengths", "    cells[at + 2] = vertical;", "    if vertical < cells[at + 2] { cells[at + 1] = flags + 1; }"),
+    Edit("conversion/strengths", "    cells[at + 3] = horizontal;",
+         "    if horizontal < cells[at + 3] { cells[at + 1] = 0; }\n    cells[at + 3] = horizontal;"),
+    Edit("conversion/strengths", "if edge { bs } else { 0 }", "if edge | (bs == 1) { bs } else { 0 }"),
+    Edit("conversion/strengths", "if edge { bs } else { 0 }", "if edge | (2 < bs) { bs } else { 0 }"),
+    Edit("conversion/strengths", "let mut n = 0;", "let mut n = 1;"),
+    Edit("conversion/strengths", "while n < cells.len() / 8 {", "while n + 1 < cells.len() / 8 {"),
+    Edit("conversion/strengths", "while n < cells.len() / 8 {", "while n < (cells.len() + 4) / 8 {"),
+    Edit("conversion/strengths", "bytes::copy(cells, &mut out[..]);", """let whole = cells.len() / 8 * 8;
+    bytes::copy(&cells[..whole], &mut out[..whole]);"""),
+    Edit("conversion/strengths", "if cells.len() != out.len() {", "if out.len() < cells.len() {"),
+    Edit("conversion/strengths", "if cells.len() != out.len() {", "if cells.len() / 8 != out.len() / 8 {"),
+    Edit("conversion/strengths", "        return false;", "        convert_records(&mut out[..]);\n        return false;"),
+    Edit("tinladle/cells", "*place = 0;", "*place = *place;"),
+    Edit("tinladle/cells", "        6\n", "        9\n"),
+]
+
+# The program convert_cells: parts that tear records, nothing after the first part, a partial record not written, one filled up, and a read
+# that comes short taken for the end of the input.
+CONVERTER = [
+    Edit("conversion_run/parts", "const PART: usize = 32768;", "const PART: usize = 32764;"),
+    Edit("conversion_run/parts", "(got == n)", "(n < got)"),
+    Edit("conversion_run/parts", "io::write_all(STDOUT_FILENO, made)", "io::write_all(STDOUT_FILENO, &made[..made.len() / 8 * 8])"),
+    Edit("conversion_run/parts", "let got = fill(&mut asked[..n]);", "let got = (fill(&mut asked[..n]) + 7) / 8 * 8;"),
+    Edit("conversion_run/parts", "if more == 0 {\n            return done;",
+         "if done + more < list.len() {\n            return done + more;"),
+]
+
 EDITS = [*THRESHOLDS, *DECISION, *LINES, *WINDOWS, *GATE, *TILES_AND_POSITIONS, *PASSES, *RESTORATION, *CHECKS, *MISTAKES,
-         *EMPTY_LIST, *PALETTE]
+         *EMPTY_LIST, *PALETTE, *RULE, *CONVERSION, *CONVERTER]

@@ -9,15 +9,18 @@ pub struct Options {
     pub shrink: bool,
     /// Where it is written.
     pub smallest: String,
+    /// A program that converts a list, which alone is then looked at, on as many lists as there would be accepted pictures.
+    pub program: Option<String>,
 }
 
-const USAGE: &str = "arguments: --accepted N, --damaged N, --seed S, --threads T, --smallest FILE, --no-shrink";
+const USAGE: &str = "arguments: --accepted N, --damaged N, --seed S, --threads T, --smallest FILE, --no-shrink, --program FILE";
 
 impl Options {
     pub fn read(mut words: impl Iterator<Item = String>) -> Result<Options, String> {
         let cores = std::thread::available_parallelism().map_or(1, |n| n.get() as u64);
         let smallest = "target/compare/smallest".to_string();
-        let mut options = Options { accepted: 100_000, damaged: 100_000, seed: 20261115, threads: cores, shrink: true, smallest };
+        let mut options =
+            Options { accepted: 100_000, damaged: 100_000, seed: 20261115, threads: cores, shrink: true, smallest, program: None };
         while let Some(word) = words.next() {
             let mut value = || words.next().ok_or(USAGE);
             let number = |text: String| text.parse::<u64>().map_err(|_| format!("not a number: {text}"));
@@ -28,6 +31,7 @@ impl Options {
                 "--threads" => options.threads = number(value()?)?.max(1),
                 "--smallest" => options.smallest = value()?,
                 "--no-shrink" => options.shrink = false,
+                "--program" => options.program = Some(value()?),
                 _ => return Err(USAGE.into()),
             }
         }

@@ -1,7 +1,8 @@
-//! The stage, called as C calls it. Every buffer lies between guard words, which differ from call to call; the outputs are filled with
-//! junk beforehand.
+//! The library's functions, called as C calls them. Every buffer lies between guard words, which differ from call to call; the outputs are
+//! filled with junk beforehand.
 
-use crate::library::tinladle_deblock;
+use crate::guards::Lent;
+use crate::library::{tinladle_convert_cells, tinladle_deblock};
 use crate::picture::{PLANE_NAMES, Picture};
 use crate::random::Random;
 
@@ -9,44 +10,6 @@ pub struct Answer {
     pub number: u32,
     pub place: u64,
     pub planes: [Vec<u16>; 3],
-}
-
-/// Guard words on each side of a buffer.
-const GUARDS: usize = 64;
-
-struct Lent<T> {
-    words: Vec<T>,
-    guard: T,
-}
-
-impl<T: Copy + PartialEq> Lent<T> {
-    fn of(items: &[T], guard: T) -> Self {
-        let mut words = vec![guard; GUARDS];
-        words.extend_from_slice(items);
-        words.extend([guard; GUARDS]);
-        Lent { words, guard }
-    }
-
-    fn items(&self) -> &[T] {
-        &self.words[GUARDS..self.words.len() - GUARDS]
-    }
-
-    /// An empty buffer may be lent as the null pointer.
-    fn at(&mut self, null: bool) -> *mut T {
-        if null && self.items().is_empty() {
-            return std::ptr::null_mut();
-        }
-        self.words[GUARDS..].as_mut_ptr()
-    }
-
-    fn len(&self) -> usize {
-        self.items().len()
-    }
-
-    fn guarded(&self) -> bool {
-        let (end, length) = (self.words.len() - GUARDS, self.words.len());
-        [0..GUARDS, end..length].into_iter().flatten().all(|at| self.words[at] == self.guard)
-    }
 }
 
 /// All that one call is lent.
@@ -134,4 +97,27 @@ pub fn run(p: &Picture, random: &mut Random) -> Result<Answer, String> {
     }
     let planes = call.outputs.map(|lent| lent.items().to_vec());
     Ok(Answer { number, place, planes })
+}
+
+/// The conversion's number and its output list, or what it wrote that it must not.
+pub fn convert(cells: &[u8], out_length: usize, random: &mut Random) -> Result<(u32, Vec<u8>), String> {
+    let word = random.next();
+    let (guard, junk, null) = (word as u8, (word >> 8) as u8, word >> 63 == 1);
+    let (mut list, mut out) = (Lent::of(cells, guard), Lent::of(&vec![junk; out_length], guard));
+    let mut place = Lent::of(&[!0], !word);
+    // As above, each pointer goes with its own buffer's length, and the buffers lie apart.
+    let number = unsafe { tinladle_convert_cells(list.at(null), list.len(), out.at(null), out.len(), place.at(false)) };
+    if !list.guarded() || !out.guarded() || !place.guarded() {
+        return Err("the conversion wrote a guard word".into());
+    }
+    if list.items() != cells {
+        return Err("the conversion wrote the list that it was given".into());
+    }
+    if place.items() != [0] {
+        return Err(format!("the conversion's place is {}", place.items()[0]));
+    }
+    if number != 0 && out.items().iter().any(|&byte| byte != junk) {
+        return Err(format!("the conversion's refusal {number} wrote the output list"));
+    }
+    Ok((number, out.items().to_vec()))
 }

@@ -2,6 +2,7 @@
 
 use std::time::{Duration, Instant};
 
+use crate::conversion;
 use crate::cut::{self, Part};
 use crate::ledger;
 use crate::picture::{CELL_BYTES, PLAIN_SLICE, Picture};
@@ -101,6 +102,8 @@ fn used_slices_only(p: &mut Picture) {
 
 /// Changes to the whole picture, each of which makes it plainer.
 const PLAINER: &[fn(&mut Picture)] = &[
+    // What shows on the converted picture is not C-14's.
+    |p| p.cells = conversion::list(&p.cells),
     no_chroma,
     one_slice,
     plain_slices,

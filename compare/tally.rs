@@ -1,13 +1,50 @@
 //! What a run exercised. All of it is sums, so that it does not matter which thread ran what.
 
-use crate::check::Agreed;
+use crate::check::{Agreed, Found};
 use crate::coverage::{Coverage, Segments};
 use crate::damage;
 use crate::ledger::Verdict;
+use crate::lists::Lists;
 use crate::picture::Picture;
 
 /// Counts by a small number: pictures, and segments that the kernels filtered.
 type Table<const N: usize> = [(u64, u64); N];
+
+/// Pictures that C-14's rule alone refuses. Each is looked at converted too, and is accepted then.
+#[derive(Clone, Copy, Default)]
+struct OutOfRule {
+    pictures: u64,
+    later_places: u64,
+    zeroed: u64,
+    /// Those of which the Rust decides, on the unconverted one.
+    beside_rust: u64,
+}
+
+impl OutOfRule {
+    fn count(&mut self, verdict: Verdict, a: &Agreed, zeroed: u64) {
+        if zeroed == 0 {
+            return;
+        }
+        self.pictures += 1;
+        self.later_places += u64::from(verdict.1 > 0);
+        self.zeroed += zeroed;
+        self.beside_rust += u64::from(!a.left_out);
+    }
+
+    fn add(&mut self, more: &OutOfRule) {
+        self.pictures += more.pictures;
+        self.later_places += more.later_places;
+        self.zeroed += more.zeroed;
+        self.beside_rust += more.beside_rust;
+    }
+
+    fn print(&self, name: &str) {
+        println!(
+            "  {name} {}, place not 0 {}; strengths zeroed {}; unconverted beside the Rust {}",
+            self.pictures, self.later_places, self.zeroed, self.beside_rust
+        );
+    }
+}
 
 #[derive(Default)]
 pub struct Tally {
@@ -32,6 +69,9 @@ pub struct Tally {
     with_palette: u64,
     turned_beside: u64,
     refused_with_palette: u64,
+    out_of_rule: OutOfRule,
+    refused_out_of_rule: OutOfRule,
+    pub lists: Lists,
     many_slices: u64,
     luma_samples: u64,
     sides: [u64; 5],
@@ -60,8 +100,9 @@ impl Tally {
         Tally { kinds: vec![0; damage::kinds().count()], ..Tally::default() }
     }
 
-    pub fn count_accepted(&mut self, p: &Picture, a: &Agreed) {
+    pub fn count_accepted(&mut self, p: &Picture, verdict: Verdict, a: &Agreed, zeroed: u64) {
         self.accepted += 1;
+        self.out_of_rule.count(verdict, a, zeroed);
         self.coverage.add(&a.coverage);
         let (luma, chroma) = (a.calls.strong + a.calls.weak, a.calls.chroma);
         self.strong += a.calls.strong;
@@ -90,8 +131,11 @@ impl Tally {
         count(&mut self.ctbs[p.log2_ctb as usize - 4], luma + chroma);
     }
 
-    pub fn count_refused(&mut self, p: &Picture, verdict: Verdict, kinds: &[usize]) {
+    pub fn count_refused(&mut self, p: &Picture, verdict: Verdict, kinds: &[usize], found: &Found) {
         self.refused[verdict.0 as usize] += 1;
+        if let Some(converted) = &found.agreed {
+            self.refused_out_of_rule.count(verdict, converted, found.zeroed);
+        }
         self.refused_empty_lists += u64::from(p.slices.is_empty());
         self.refused_with_palette += u64::from(p.palette_cells() > 0);
         self.later_places += u64::from(verdict.1 > 0);
@@ -122,6 +166,9 @@ impl Tally {
         self.with_palette += more.with_palette;
         self.turned_beside += more.turned_beside;
         self.refused_with_palette += more.refused_with_palette;
+        self.out_of_rule.add(&more.out_of_rule);
+        self.refused_out_of_rule.add(&more.refused_out_of_rule);
+        self.lists.add(&more.lists);
         self.many_slices += more.many_slices;
         self.luma_samples += more.luma_samples;
         add(&mut self.formats, &more.formats);
@@ -134,6 +181,11 @@ impl Tally {
         self.print_pictures();
         self.print_segments();
         self.print_refusals();
+        let l = &self.lists;
+        println!(
+            "lists {}; bytes {}; lengths that differ {}; empty {}; ending within a record {}; in rule {}; strengths zeroed {}",
+            l.count, l.bytes, l.refused, l.empty, l.partial, l.in_rule, l.zeroed
+        );
     }
 
     fn print_pictures(&self) {
@@ -152,6 +204,7 @@ impl Tally {
             self.left_out,
             self.parted
         );
+        self.out_of_rule.print("drawn out of C-14's rule");
         let [y, cb, cr] = self.moved;
         println!("  samples moved: Y {y}, Cb {cb}, Cr {cr}");
         let s = &self.coverage.suppressed;
@@ -181,6 +234,7 @@ impl Tally {
         let refused: u64 = self.refused.iter().sum();
         println!("refused {refused}; several kinds of damage at once {}; place not 0 {}", self.several, self.later_places);
         println!("  empty slice list {}; with palette cells {}", self.refused_empty_lists, self.refused_with_palette);
+        self.refused_out_of_rule.print("by C-14's rule alone");
         let numbers: Vec<String> = (1..=10).map(|n| format!("{n}: {}", self.refused[n])).collect();
         println!("  by number: {}", numbers.join(", "));
         println!("  by kind of damage:");

@@ -1,5 +1,5 @@
-/* The C function of include/tinladle.h over an unproved build of the stage, for mutants.py: there the function that the Rattle sources
- * call tinladle_deblock is an inner one, which takes each slice as the address of a pointer and a length. */
+/* The C functions of include/tinladle.h over an unproved build, for mutants.py: there what the Rattle sources call tinladle_deblock and
+ * tinladle_convert_cells are inner functions, which take each slice as the address of a pointer and a length. */
 #include "tinladle.h"
 
 struct Slice {
@@ -7,7 +7,7 @@ struct Slice {
     size_t count;
 };
 
-uint32_t tinladle_unproved(
+uint32_t unproved_deblock(
     uint32_t width, uint32_t height, uint32_t chroma_format, uint32_t luma_depth, uint32_t chroma_depth, uint32_t log2_ctb,
     int32_t cb_qp_offset, int32_t cr_qp_offset, bool pcm_loop_filter_disabled, const struct Slice *y, const struct Slice *cb,
     const struct Slice *cr, const struct Slice *cells, const struct Slice *slices, const struct Slice *tile_columns,
@@ -24,6 +24,13 @@ uint32_t tinladle_deblock(
     struct Slice in[] = { { y, y_len }, { cb, cb_len }, { cr, cr_len }, { cells, cells_len }, { slices, slices_len },
         { tile_columns, columns_len }, { tile_rows, rows_len } };
     struct Slice out[] = { { out_y, out_y_len }, { out_cb, out_cb_len }, { out_cr, out_cr_len } };
-    return tinladle_unproved(width, height, chroma_format, luma_depth, chroma_depth, log2_ctb, cb_qp_offset, cr_qp_offset,
+    return unproved_deblock(width, height, chroma_format, luma_depth, chroma_depth, log2_ctb, cb_qp_offset, cr_qp_offset,
         pcm_loop_filter_disabled, &in[0], &in[1], &in[2], &in[3], &in[4], &in[5], &in[6], &out[0], &out[1], &out[2], place);
+}
+
+uint32_t unproved_convert_cells(const struct Slice *cells, const struct Slice *out_cells, uint64_t *place);
+
+uint32_t tinladle_convert_cells(const uint8_t *cells, size_t cells_len, uint8_t *out_cells, size_t out_cells_len, uint64_t *place) {
+    struct Slice in = { cells, cells_len }, out = { out_cells, out_cells_len };
+    return unproved_convert_cells(&in, &out, place);
 }

@@ -1,62 +1,13 @@
-//! Causes 7 to 10: a slice, tile start, cell or sample out of range, at one to three places, so that the first of them matters.
+//! Causes 7 and 8: a slice or a tile start out of range.
 
-use super::{Kind, kind};
-use crate::picture::{CELL_BYTES, Picture, SLICE_BYTES};
+use super::{Kind, kind, places};
+use crate::picture::{Picture, SLICE_BYTES};
 use crate::random::Random;
-
-/// Places in a list of `count`: often its first or its last.
-fn places(count: usize, r: &mut Random) -> Vec<usize> {
-    let mut place = || match r.below(6) {
-        0 => 0,
-        1 => count - 1,
-        _ => r.index(count),
-    };
-    if count == 0 {
-        return vec![];
-    }
-    let first = place();
-    let mut found = vec![first];
-    while found.len() < 3 && r.chance(25) {
-        found.push(r.index(count));
-    }
-    found
-}
 
 fn slice_byte(p: &mut Picture, at: usize, values: &[u8], r: &mut Random) -> bool {
     let found = places(p.slices.len() / SLICE_BYTES, r);
     for &place in &found {
         p.slices[SLICE_BYTES * place + at] = r.pick(values);
-    }
-    !found.is_empty()
-}
-
-fn cell_byte(p: &mut Picture, at: usize, r: &mut Random, value: impl Fn(&mut Random, u8) -> u8) -> bool {
-    let found = places(p.cells.len() / CELL_BYTES, r);
-    for &place in &found {
-        let byte = &mut p.cells[CELL_BYTES * place + at];
-        *byte = value(r, *byte);
-    }
-    !found.is_empty()
-}
-
-fn cell_slice(p: &mut Picture, r: &mut Random, slice: impl Fn(&mut Random, usize) -> usize) -> bool {
-    let count = (p.slices.len() / SLICE_BYTES).max(1);
-    let found = places(p.cells.len() / CELL_BYTES, r);
-    for &place in &found {
-        let bytes = (slice(r, count) as u16).to_le_bytes();
-        p.cells[CELL_BYTES * place + 4..CELL_BYTES * place + 6].copy_from_slice(&bytes);
-    }
-    !found.is_empty()
-}
-
-fn sample(p: &mut Picture, plane: usize, r: &mut Random) -> bool {
-    let depth = p.plane_depth(plane);
-    if !(8..16).contains(&depth) {
-        return false;
-    }
-    let found = places(p.planes[plane].len(), r);
-    for &place in &found {
-        p.planes[plane][place] = r.pick(&[1 << depth, 1 << depth, u16::MAX]);
     }
     !found.is_empty()
 }
@@ -111,25 +62,4 @@ pub const KINDS: &[Kind] = &[
         let end = ctbs(p.height, p.log2_ctb);
         past_the_end(&mut p.rows, 22, end, r)
     }),
-    kind("cell: QP below its least", 9, |p, r| {
-        let least = 64 - 6 * (p.luma_depth.clamp(8, 16) as u8 - 8);
-        cell_byte(p, 0, r, |r, _| r.pick(&[least - 1, least - 1, 0]))
-    }),
-    kind("cell: QP above 51", 9, |p, r| cell_byte(p, 0, r, |r, _| r.pick(&[116, 116, 128, 255]))),
-    kind("cell: a flag that is none", 9, |p, r| cell_byte(p, 1, r, |r, flags| flags | 32 << r.below(3))),
-    kind("cell: vertical bS above 2", 9, |p, r| cell_byte(p, 2, r, |r, _| r.pick(&[3, 3, 128, 255]))),
-    kind("cell: horizontal bS above 2", 9, |p, r| cell_byte(p, 3, r, |r, _| r.pick(&[3, 3, 128, 255]))),
-    kind("cell: first slice not in the list", 9, |p, r| cell_slice(p, r, |_, count| count)),
-    kind("cell: slice above 255 or far off", 9, |p, r| {
-        cell_slice(p, r, |r, count| match r.below(3) {
-            0 => 256 * (count / 256 + 1),
-            1 => count | 256 << r.below(8),
-            _ => 65535,
-        })
-    }),
-    kind("cell: byte 6 not 0", 9, |p, r| cell_byte(p, 6, r, |r, _| r.pick(&[1, 128, 255]))),
-    kind("cell: byte 7 not 0", 9, |p, r| cell_byte(p, 7, r, |r, _| r.pick(&[1, 128, 255]))),
-    kind("Y sample too large", 10, |p, r| sample(p, 0, r)),
-    kind("Cb sample too large", 10, |p, r| sample(p, 1, r)),
-    kind("Cr sample too large", 10, |p, r| sample(p, 2, r)),
 ];

@@ -1,5 +1,6 @@
 //! Damaged pictures: each kind of damage breaks one rule of the refusal ledger.
 
+mod cells;
 mod lengths;
 mod lists;
 mod settings;
@@ -25,7 +26,25 @@ const fn kind(name: &'static str, number: u32, apply: Apply) -> Kind {
 
 /// All kinds, in the ledger's order.
 pub fn kinds() -> impl Iterator<Item = &'static Kind> {
-    settings::KINDS.iter().chain(lengths::KINDS).chain(lists::KINDS)
+    settings::KINDS.iter().chain(lengths::KINDS).chain(lists::KINDS).chain(cells::KINDS)
+}
+
+/// One to three places in a list of `count`, so that the first of them matters: often its first or its last.
+fn places(count: usize, r: &mut Random) -> Vec<usize> {
+    let mut place = || match r.below(6) {
+        0 => 0,
+        1 => count - 1,
+        _ => r.index(count),
+    };
+    if count == 0 {
+        return vec![];
+    }
+    let first = place();
+    let mut found = vec![first];
+    while found.len() < 3 && r.chance(25) {
+        found.push(r.index(count));
+    }
+    found
 }
 
 /// A refused picture and the kinds of damage done to it. Picture `number` of a run has kind `number` in turn; a third of the pictures
