@@ -1,8 +1,8 @@
 //! Times tinladle_deblock beside the customer's `apply_deblocking_parallel` on pictures of 2048 by 2048 and of 8192 by 8192, 4:2:0, and
 //! holds their planes to each other sample for sample.
 //!
-//! All are called on one thread: ours with all its checks, the customer's with its scalar kernels and, where the processor has AVX2, with
-//! its AVX2 kernels. The customer's filters in place, so a copy of the originals is counted, as ours makes one. It is a copy into planes
+//! All are called on one thread: ours with all its checks, which are timed by themselves too, the customer's with its scalar kernels and,
+//! where the processor has AVX2, with its AVX2 kernels. The customer's filters in place, so a copy of the originals is counted, as ours makes one. It is a copy into planes
 //! that were allocated beforehand, which takes less time than a clone, so the measure is to the Rust's favour; and the lists that the
 //! Rust reads are laid out its way beforehand.
 
@@ -61,13 +61,22 @@ fn call(p: &Picture, out: &mut Planes, place: &mut u64) -> u32 {
     }
 }
 
-fn ours(p: &Picture, out: &mut Planes) -> f64 {
+/// The seconds of a call, which must have this answer.
+fn ours(p: &Picture, out: &mut Planes, answer: (u32, u64)) -> f64 {
     let mut place = 0u64;
     let began = Instant::now();
     let number = call(p, out, &mut place);
     let took = began.elapsed().as_secs_f64();
-    assert_eq!((number, place), (0, 0));
+    assert_eq!((number, place), answer);
     took
+}
+
+/// The picture with its last sample too large, and the answer: refused for it, so that all checks are made and nothing else.
+fn checked_alone(p: &Picture) -> (Picture, (u32, u64)) {
+    let mut refused = p.clone();
+    *refused.planes[2].last_mut().expect("a Cr sample") = 1 << p.chroma_depth;
+    let samples: usize = p.planes.iter().map(Vec::len).sum();
+    (refused, (10, samples as u64 - 1))
 }
 
 /// The customer's AVX2 kernels, with the pair kernels, as its own `ExecContext` takes them; none where the processor has no AVX2.
@@ -117,18 +126,20 @@ impl<'a> Theirs<'a> {
     }
 }
 
-/// The seconds of each run of ours, of the scalar kernels and of the AVX2 kernels where there are any, in turn. After every run the
-/// planes are held to ours. The first run of each brings the planes into memory and is not counted.
-fn times(name: &str, timed: &Timed, runs: usize) -> [Vec<f64>; 3] {
+/// The seconds of each run of ours, of its checks alone, of the scalar kernels and of the AVX2 kernels where there are any, in turn. After
+/// every run the planes are held to ours. The first run of each brings the planes into memory and is not counted.
+fn times(name: &str, timed: &Timed, runs: usize) -> [Vec<f64>; 4] {
     let p = &timed.picture;
+    let (refused, answer) = checked_alone(p);
     let lists = Lists::of(p);
     let mut scalar = Theirs::new(p, &lists, exec::ExecContext::scalar());
     let mut avx2 = avx2().map(|kernels| Theirs::new(p, &lists, kernels));
     let (mut a, mut b) = (empty(p), empty(p));
-    let mut all = [Vec::new(), Vec::new(), Vec::new()];
+    let mut all = [const { Vec::new() }; 4];
     for run in 0..=runs {
-        let mut took = [Some(ours(p, &mut a)), None, None];
-        for (theirs, took) in [Some(&mut scalar), avx2.as_mut()].into_iter().zip(&mut took[1..]) {
+        let checks = ours(&refused, &mut a, answer);
+        let mut took = [Some(ours(p, &mut a, (0, 0))), Some(checks), None, None];
+        for (theirs, took) in [Some(&mut scalar), avx2.as_mut()].into_iter().zip(&mut took[2..]) {
             *took = theirs.map(|t| t.run(p, &mut b));
             assert!(a == b, "{name}: the planes differ");
         }
@@ -165,10 +176,11 @@ fn best_and_median(mut times: Vec<f64>, samples: usize) -> Option<(f64, f64)> {
 
 /// One picture's row of the table.
 fn row(name: &str, timed: &Timed, runs: usize) -> String {
-    let [ours, scalar, avx2] = times(name, timed, runs).map(|list| best_and_median(list, timed.samples()));
-    let ((ours, our_median), (scalar, median)) = (ours.expect("a run"), scalar.expect("a run"));
+    let [ours, checks, scalar, avx2] = times(name, timed, runs).map(|list| best_and_median(list, timed.samples()));
+    let ((ours, our_median), (checks, _), (scalar, median)) = (ours.expect("a run"), checks.expect("a run"), scalar.expect("a run"));
     let avx2 = avx2.map_or("-".into(), |(best, _)| format!("{best:.2}"));
-    format!("| {name} | {runs} | {ours:.2} | {scalar:.2} | {avx2} | {:.2} | {:.2} |", ours / scalar, our_median / median)
+    let (best, medians) = (ours / scalar, our_median / median);
+    format!("| {name} | {runs} | {ours:.2} | {checks:.3} | {scalar:.2} | {avx2} | {best:.2} | {medians:.2} |")
 }
 
 type Maker = fn(usize, u32) -> Timed;
@@ -187,7 +199,7 @@ fn main() {
     println!();
     println!("ns per sample of all planes, best of the runs:");
     println!();
-    println!("| picture | runs | ours | Rust, scalar | Rust, AVX2 | ours to scalar, best | ours to scalar, medians |");
-    println!("|---|---|---|---|---|---|---|");
+    println!("| picture | runs | ours | its checks | Rust, scalar | Rust, AVX2 | ours to scalar, best | ours to scalar, medians |");
+    println!("|---|---|---|---|---|---|---|---|");
     rows.iter().for_each(|row| println!("{row}"));
 }
