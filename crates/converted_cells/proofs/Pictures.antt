@@ -1,7 +1,7 @@
 -- A picture accepted so far is accepted converted, and filtered as it was: a strength without its edge opens nothing.
 use Prim.Native.Nat.{ℕ, _+_, _*_, _/_, _≤_, _<_}
-use mathlib.Core.Path.{_≡_, refl, sym, ap, _∙_}
-use mathlib.Core.Bool.{Bool, true, false, cond}
+use mathlib.Core.Path.{_≡_, refl, sym, ap, ap₂, _∙_}
+use mathlib.Core.Bool.{Bool, true, false, cond, _&&_, _||_}
 use mathlib.Core.List.{List, []}
 use native.Mathlib.Omega.{arith}
 use lib.Dec.{eqb, ltb}
@@ -10,34 +10,15 @@ use Rattle.conversion.specs.Converted.{converted}
 use Rattle.conversion.proofs.Bytes.{same-length}
 use Rattle.conversion.proofs.Records.{vertical-byte, horizontal-byte, other-byte}
 use Rattle.filter.specs.Finished.{finished, outputs}
-use Rattle.filter.specs.Segment.{
-  Direction,
-  vertical,
-  horizontal,
-  edgeFlag,
-  bsOf,
-  slicesOpen,
-  gate,
-  lumaFilter,
-  chromaFilter,
-  filterOf,
-  between,
-  segmentAt,
-}
-use Rattle.filter.proofs.Alike.{Alike, SameMarks, finished-alike}
+use Rattle.filter.specs.Segment.{vertical, horizontal}
+use Rattle.filter.proofs.Alike.{SameCell, cells-alike}
 use Rattle.picture.specs.Accepted.{CellOk, EdgesOk, PictureOk}
 use Rattle.picture.specs.Causes.{badPlanes, cellRules, verdict}
-use Rattle.picture.specs.Cell.{bit, cellAt, cellByte, cellNumber, suppressed}
-use Rattle.picture.specs.declared.Cell.{Cell}
-use Rattle.picture.specs.declared.Slice.{Slice}
+use Rattle.picture.specs.Cell.{bit, cellAt, cellByte, suppressed}
 use Rattle.picture.specs.Ledger.{Verdict, acceptance}
-use Rattle.picture.specs.Picture.{Picture, Planes, Settings}
-use Rattle.picture.specs.Scale.{Component, Y, Cb, Cr, cellOf}
-use Rattle.picture.specs.Slice.{sliceAt}
-use Rattle.picture.specs.Tile.{sameTile}
+use Rattle.picture.specs.Picture.{Picture, Planes}
 use Rattle.picture.proofs.Accepted.{picture-by, picture-is, strengths-in}
 use Rattle.converted_cells.specs.ConvertedCells.{
-  InRule,
   PicturesConverted,
   convertedPicture,
   outputsBefore,
@@ -52,10 +33,9 @@ same : (t : Bool) (b : ℕ) {a : ℕ} → a ≡ b → cond t a b ≡ b
 same true b e = e
 same false b e = refl
 
-kept-once : (t edge : Bool) (bs : ℕ) → cond edge (cond t (cond edge bs 0) bs) 0 ≡ cond edge bs 0
-kept-once t false bs = refl
-kept-once true true bs = refl
-kept-once false true bs = refl
+at-edge : (t edge : Bool) (bs : ℕ) → edge ≡ true → cond t (cond edge bs 0) bs ≡ bs
+at-edge true edge bs e = rw e refl
+at-edge false edge bs e = refl
 
 no-larger : (t edge : Bool) (bs : ℕ) → cond t (cond edge bs 0) bs ≤ bs
 no-larger true true bs = omega arith
@@ -100,71 +80,25 @@ module _ (l : List ℕ) (n : ℕ) where
     seventh = kept-byte 7 (omega arith) refl refl ∙ ok .seventh;
   }
 
--- ---- a cell without its strengths that have no edge
-
-abbrev withEdges : Cell → Cell
-withEdges c = record {
-  qp = c .qp;
-  flags = c .flags;
-  bsv = cond (bit (c .flags) 0) (c .bsv) 0;
-  bsh = cond (bit (c .flags) 1) (c .bsh) 0;
-  slice = c .slice;
-}
-
--- a record and the converted one come to the same
-one-cell : (l : List ℕ) (n : ℕ) → withEdges (cellAt (converted l) n) ≡ withEdges (cellAt l n)
-unfolding cellAt
-one-cell l n = λ i. record {
-  qp = kept-byte l n 0 (omega arith) refl refl i;
-  flags = flags i;
-  bsv = left i;
-  bsh = top i;
-  slice = kept-byte l n 4 (omega arith) refl refl i + 256 * kept-byte l n 5 (omega arith) refl refl i;
-}
-  where
-    flags : cellByte (converted l) n 1 ≡ cellByte l n 1
-    flags = kept-byte l n 1 (omega arith) refl refl
-
-    left :
-        cond (bit (cellByte (converted l) n 1) 0) (cellByte (converted l) n 2) 0
-        ≡ cond (edge l n 0) (cellByte l n 2) 0
-    left = rw (flags, vertical-bs l n) (kept-once (whole l n) (edge l n 0) (cellByte l n 2))
-
-    top :
-        cond (bit (cellByte (converted l) n 1) 1) (cellByte (converted l) n 3) 0
-        ≡ cond (edge l n 1) (cellByte l n 3) 0
-    top = rw (flags, horizontal-bs l n) (kept-once (whole l n) (edge l n 1) (cellByte l n 3))
-
--- the filter does not tell them apart
-edge-same : (d : Direction) (q : Cell) → edgeFlag d (withEdges q) ≡ edgeFlag d q
-edge-same vertical q = refl
-edge-same horizontal q = refl
-
-bs-is : (d : Direction) (q : Cell) → bsOf d (withEdges q) ≡ cond (edgeFlag d q) (bsOf d q) 0
-bs-is vertical q = refl
-bs-is horizontal q = refl
-
-filter-same : (t : Settings) (c : Component) (p q : Cell) (s : Slice) (bS : ℕ)
-    → filterOf t c (withEdges p) (withEdges q) s bS ≡ filterOf t c p q s bS
-unfolding lumaFilter chromaFilter
-filter-same t Y p q s bS = refl
-filter-same t Cb p q s bS = refl
-filter-same t Cr p q s bS = refl
-
-between-same : (t : Settings) (slices : List ℕ) (c : Component) (d : Direction) (p q : Cell) (tile : Bool)
-    → between t slices c d (withEdges p) (withEdges q) tile ≡ between t slices c d p q tile
-unfolding between gate slicesOpen
-between-same t slices c d p q tile = go (edgeFlag d q) refl
-  where
-    go : (e : Bool) → edgeFlag d q ≡ e
-        → between t slices c d (withEdges p) (withEdges q) tile ≡ between t slices c d p q tile
-    go true e =
-        rw (edge-same d q, bs-is d q, e, filter-same t c p q (sliceAt slices (q .slice)) (bsOf d q)) refl
-    go false e = rw (edge-same d q, e) refl
-
-mark-same : (pcm : Bool) (c : Cell) → suppressed pcm (withEdges c) ≡ suppressed pcm c
-unfolding suppressed
-mark-same pcm c = refl
+  -- the filter does not tell the two records apart
+  cell-same : SameCell (cellAt l n) (cellAt (converted l) n)
+  unfolding cellAt suppressed
+  cell-same = record {
+    qp = sym (kept-byte 0 (omega arith) refl refl);
+    slice =
+        sym
+        (ap₂ (λ (low high : ℕ). low + 256 * high) (kept-byte 4 (omega arith) refl refl)
+        (kept-byte 5 (omega arith) refl refl));
+    edge = elim [ vertical ↦ ap (λ (f : ℕ). bit f 0) flags | horizontal ↦ ap (λ (f : ℕ). bit f 1) flags ];
+    strength = elim [
+      | vertical ↦ λ e. sym (vertical-bs ∙ at-edge whole (edge 0) _ e)
+      | horizontal ↦ λ e. sym (horizontal-bs ∙ at-edge whole (edge 1) _ e)
+    ];
+    mark = λ pcm. ap (λ (f : ℕ). bit f 2 || (bit f 3 && pcm) || bit f 4) flags;
+  }
+    where
+      flags : cellByte l n 1 ≡ cellByte (converted l) n 1
+      flags = sym (kept-byte 1 (omega arith) refl refl)
 
 -- ---- the converted picture
 
@@ -172,30 +106,9 @@ module _ (p : Picture) where
   abbrev cells : List ℕ
   cells = converted (p .cells)
 
-  segments-alike : Alike p (p .cells) (p .slices) cells (p .slices)
-  unfolding segmentAt sameTile
-  segments-alike c d a b =
-      sym (between-same (p .settings) (p .slices) c d _ _ tile)
-      ∙ sym
-      (λ i.
-      between (p .settings) (p .slices) c d (one-cell (p .cells) (number (a .x) (a .y)) i)
-      (one-cell (p .cells) (number (b .x) (b .y)) i) tile)
-      ∙ between-same (p .settings) (p .slices) c d _ _ tile
-    where
-      tile : Bool
-      tile = sameTile p (a .x) (a .y) (b .x) (b .y)
-
-      number : ℕ → ℕ → ℕ
-      number x y = cellNumber (cellOf (p .width)) (cellOf x) (cellOf y)
-
-  marks-alike : SameMarks p (p .cells) (p .slices) cells (p .slices)
-  marks-alike c x y =
-      let pcm : Bool = p .settings .pcm-loop-filter-disabled in
-      sym (mark-same pcm _) ∙ sym (ap (suppressed pcm) (one-cell (p .cells) _)) ∙ mark-same pcm _
-
   -- accepted or not
   finished-same : finished p ≡ finished (convertedPicture p)
-  finished-same = finished-alike p (p .cells) (p .slices) cells (p .slices) segments-alike marks-alike
+  finished-same = cells-alike p cells (cell-same (p .cells))
 
   module _ (ok : PictureOk p) where
     picture-ok : PictureOk (convertedPicture p)

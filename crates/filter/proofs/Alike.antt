@@ -1,5 +1,6 @@
 -- Two pictures that differ in their cell and slice lists alone have the same finished planes where their segments are
--- filtered alike and the same samples are suppressed; and the same outputs where they are answered alike besides.
+-- filtered alike and the same samples are suppressed; and the same outputs where they are answered alike besides. Where
+-- they differ in their cells alone it is enough that the filter does not tell the cells apart.
 use Prim.Native.Nat.{ℕ}
 use mathlib.Core.Path.{_≡_, refl, ap, sym, _∙_}
 use mathlib.Core.Bool.{Bool, true, false, cond}
@@ -10,13 +11,29 @@ use lib.Dec.{eqb}
 use Rattle.filter.specs.Finished.{passOf, restored, finishedPlane, finished, outputs}
 use Rattle.filter.specs.Kernel.{Filter, kernel}
 use Rattle.filter.specs.Pass.{pass}
-use Rattle.filter.specs.Segment.{Direction, vertical, horizontal, Position, segmentAt, segment}
+use Rattle.filter.specs.Segment.{
+  Direction,
+  vertical,
+  horizontal,
+  edgeFlag,
+  bsOf,
+  slicesOpen,
+  gate,
+  lumaFilter,
+  chromaFilter,
+  between,
+  Position,
+  segmentAt,
+  segment,
+}
 use Rattle.picture.specs.Causes.{verdict}
-use Rattle.picture.specs.Cell.{suppressed, cellBeneath}
+use Rattle.picture.specs.Cell.{suppressed, cellAt, cellBeneath}
+use Rattle.picture.specs.declared.Cell.{Cell}
 use Rattle.picture.specs.Ledger.{Verdict}
-use Rattle.picture.specs.Picture.{Picture, Planes, withLists, planeWidth, planeHeight, original}
+use Rattle.picture.specs.Picture.{Picture, Planes, Settings, withLists, planeWidth, planeHeight, original}
 use Rattle.picture.specs.Plane.{Plane, table, transposed}
 use Rattle.picture.specs.Scale.{Component, Y, Cb, Cr}
+use Rattle.picture.specs.Tile.{sameTile}
 
 -- whether a component's sample is suppressed
 abbrev pub mark : Picture → Component → ℕ → ℕ → Bool
@@ -76,6 +93,48 @@ module _ (p : Picture) (cells slices cells′ slices′ : List ℕ) where
     pub finished-alike : finished one ≡ finished other
     unfolding finished
     finished-alike = λ i. record { y = list-alike Y i; cb = list-alike Cb i; cr = list-alike Cr i }
+
+-- ---- cells that the filter does not tell apart
+
+-- a strength counts only where its edge is there
+pub record SameCell (a b : Cell) : Type 0 where
+  pub qp : a .qp ≡ b .qp
+  pub slice : a .slice ≡ b .slice
+  pub edge : (d : Direction) → edgeFlag d a ≡ edgeFlag d b
+  pub strength : (d : Direction) → edgeFlag d a ≡ true → bsOf d a ≡ bsOf d b
+  pub mark : (pcm : Bool) → suppressed pcm a ≡ suppressed pcm b
+
+module _ (t : Settings) (slices : List ℕ) (d : Direction) {p q p′ q′ : Cell} (tile : Bool)
+    (P : SameCell p p′) (Q : SameCell q q′) where
+  at-edge : (c : Component) → edgeFlag d q ≡ true
+      → between t slices c d p q tile ≡ between t slices c d p′ q′ tile
+  unfolding between gate slicesOpen lumaFilter chromaFilter
+  at-edge Y e = rw (Q .strength d e, ← Q .edge d, P .qp, Q .qp, P .slice, Q .slice) refl
+  at-edge Cb e = rw (Q .strength d e, ← Q .edge d, P .qp, Q .qp, P .slice, Q .slice) refl
+  at-edge Cr e = rw (Q .strength d e, ← Q .edge d, P .qp, Q .qp, P .slice, Q .slice) refl
+
+  elsewhere : (c : Component) → edgeFlag d q ≡ false
+      → between t slices c d p q tile ≡ between t slices c d p′ q′ tile
+  unfolding between gate
+  elsewhere c e = rw (← Q .edge d, e) refl
+
+  between-alike : (c : Component) → between t slices c d p q tile ≡ between t slices c d p′ q′ tile
+  between-alike c = go (edgeFlag d q) refl
+    where
+      go : (e : Bool) → edgeFlag d q ≡ e → between t slices c d p q tile ≡ between t slices c d p′ q′ tile
+      go true e = at-edge c e
+      go false e = elsewhere c e
+
+module _ (p : Picture) (cells′ : List ℕ) (same : (n : ℕ) → SameCell (cellAt (p .cells) n) (cellAt cells′ n)) where
+  segments-alike : Alike p (p .cells) (p .slices) cells′ (p .slices)
+  unfolding segmentAt sameTile
+  segments-alike c d a b =
+      between-alike (p .settings) (p .slices) d (sameTile p (a .x) (a .y) (b .x) (b .y)) (same _) (same _) c
+
+  pub cells-alike : finished p ≡ finished (withLists cells′ (p .slices) p)
+  cells-alike = finished-alike p (p .cells) (p .slices) cells′ (p .slices) segments-alike (λ c x y. same _ .mark _)
+
+-- ---- what is left in the outputs
 
 -- two choices are the same where they part only in what is chosen
 chosen : {A : Type 0} (t : Bool) (a b other : A) → (t ≡ true → a ≡ b) → cond t a other ≡ cond t b other

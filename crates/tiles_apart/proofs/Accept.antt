@@ -6,10 +6,10 @@ use native.Mathlib.Nat.{le-div-iff-mul-le}
 use native.Mathlib.Omega.{arith}
 use lib.ListN.{length, getD}
 use lib.Pow.{pow-pos}
-use Rattle.picture.specs.Accepted.{PictureOk, SizeOk, PlanesOk, StartsOk, CellOk, EdgesOk}
+use Rattle.picture.specs.Accepted.{PictureOk, SizeOk, StartsOk, CellOk, EdgesOk}
 use Rattle.picture.specs.Cell.{cellByte, cellCount, cellNumber}
 use Rattle.picture.specs.Cut.{IsTile, tilePart, cellPart, tileOfPlane, cut}
-use Rattle.picture.specs.Picture.{Picture, Planes, planeOf, planeWidth, planeHeight, across, down, largest, ctbSize}
+use Rattle.picture.specs.Picture.{Picture, planeOf, planeWidth, planeHeight, across, down, largest, ctbSize}
 use Rattle.picture.specs.Plane.{at}
 use Rattle.picture.specs.Scale.{Component, cellOf}
 use Rattle.picture.specs.Tile.{ctbCount, tileLeft, tileTop, tileWidth, tileHeight}
