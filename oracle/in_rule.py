@@ -15,53 +15,22 @@ import sys
 sys.dont_write_bytecode = True
 
 from ledger import verdict
-from outright import PICTURES, git, lines, others, records
+from revisions import run
 from stored import ROOT, stop
 
 PROGRAM = ROOT / "target" / "bin" / "convert_cells"
 
 
-def to_convert(picture):
-    return not picture.in_rule() and verdict(picture, rule=False) == (0, 0)
+def by_program(picture):
+    cells = subprocess.run([PROGRAM], input=picture.cells, check=True, capture_output=True).stdout
+    return picture.with_fields(cells=cells)
 
 
-def by_program(pictures):
-    """The pictures as the program converts their cell lists. All go through it in one run: it converts whole records one by one,
-    and these have no other."""
+def converted(pictures):
     if not PROGRAM.exists():
         stop(f"{PROGRAM.relative_to(ROOT)} is missing: rt check convert_cells proves and builds it")
-    given = b"".join(picture.cells for picture in pictures)
-    made = subprocess.run([PROGRAM], input=given, check=True, capture_output=True).stdout
-    assert len(made) == len(given), "the program wrote another length than it read"
-    at = 0
-    for picture in pictures:
-        yield picture.with_fields(cells=made[at:at + len(picture.cells)])
-        at += len(picture.cells)
-
-
-def check_pictures(crate, before, after):
-    old, new = records(before, crate), records(after, crate)
-    unconverted = [picture for picture, _ in old if to_convert(picture)]
-    made = by_program(unconverted)
-    for number, ((picture, data), (_, now)) in enumerate(zip(old, new), 1):
-        wanted = next(made).pack() if to_convert(picture) else data
-        assert now == wanted, f"{crate}: record {number} is another"
-    said = lines(before, crate)
-    assert len(new) >= len(old) and lines(after, crate)[:len(said)] == said, f"{crate}: the output moved"
-    print(f"{crate}: {len(old)} pictures, {len(unconverted)} of them converted now; {len(said)} lines of output, the same;"
-          f" new after them: {len(new) - len(old)}")
-
-
-def main():
-    if len(sys.argv) not in (2, 3):
-        sys.exit(__doc__)
-    before, after = (sys.argv[1:] + ["HEAD"])[:2]
-    for crate in PICTURES:
-        check_pictures(crate, before, after)
-    for name in others(before):
-        assert git("show", f"{before}:{name}") == git("show", f"{after}:{name}"), f"{name} moved"
-        print(f"{name}: the same bytes")
+    return [None if picture.in_rule() or verdict(picture, rule=False) != (0, 0) else by_program(picture) for picture in pictures]
 
 
 if __name__ == "__main__":
-    main()
+    run(__doc__, converted, "out of rule then and converted now")
