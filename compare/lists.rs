@@ -46,7 +46,7 @@ impl Lists {
     }
 }
 
-/// The bytes of a list: of records that may be accepted, with strengths at all ends, all with both edges, or any bytes.
+/// The bytes of a list: with flags and strengths in range, with strengths at all ends, all with both edges, or any bytes.
 pub fn bytes(random: &mut Random, length: usize) -> Vec<u8> {
     let style = random.below(4);
     let byte = |at: usize| match (style, at % CELL_BYTES) {

@@ -322,8 +322,8 @@ CONVERSION = [
     Edit("tinladle/cells", "        6\n", "        9\n"),
 ]
 
-# The program convert_cells: parts that tear records, nothing after the first part, a partial record not written, one filled up, and a read
-# that comes short taken for the end of the input.
+# The program convert_cells: parts that tear records, nothing after the first part, a partial record not written, one filled up, a read
+# that comes short taken for the end of the input, and a read or a write that fails without a word.
 CONVERTER = [
     Edit("conversion_run/parts", "const PART: usize = 32768;", "const PART: usize = 32764;"),
     Edit("conversion_run/parts", "(got == n)", "(n < got)"),
@@ -331,6 +331,8 @@ CONVERTER = [
     Edit("conversion_run/parts", "let got = fill(&mut asked[..n]);", "let got = (fill(&mut asked[..n]) + 7) / 8 * 8;"),
     Edit("conversion_run/parts", "if more == 0 {\n            return done;",
          "if done + more < list.len() {\n            return done + more;"),
+    Edit("conversion_run/parts", "if got < 0 {", "if 0 < got {"),
+    Edit("conversion_run/parts", "if !is_written {", "if !is_written & (list.len() == 0) {"),
 ]
 
 EDITS = [*THRESHOLDS, *DECISION, *LINES, *WINDOWS, *GATE, *TILES_AND_POSITIONS, *PASSES, *RESTORATION, *CHECKS, *MISTAKES,

@@ -11,7 +11,9 @@ unchanged sources go first: there the comparison must find nothing. Prints a lin
 noticed but those that are argued to change no output.
 """
 
+import os
 import shutil
+import signal
 import subprocess
 import sys
 from pathlib import Path
@@ -19,7 +21,7 @@ from pathlib import Path
 sys.dont_write_bytecode = True
 
 from mutant_edits import EDITS
-from unproved import CONVERTER, LIBRARY, ROOT, WORK, begin, build_converter, build_library, copy_sources, must, reached_by, run
+from unproved import CONVERTER, LIBRARY, ROOT, WORK, begin, build_converter, build_library, copy_sources, must, reached_by
 
 ACCEPTED, DAMAGED, SEED = 4000, 8000, 7
 LISTS = 300  # through the program, each of up to 160 KiB
@@ -40,17 +42,23 @@ def prepare(source):
 
 def difference(words, library):
     """What the comparison says, loading the library of a folder: None where it finds nothing."""
+    command = [str(word) for word in (WORK / "compare", *words, "--seed", SEED, "--no-shrink")]
+    # A group of its own: what does not end is stopped with the programs that it runs.
+    running = subprocess.Popen(command, stdout=subprocess.PIPE, stderr=subprocess.PIPE, text=True, start_new_session=True,
+                               env={"LD_LIBRARY_PATH": str(library)})
     try:
-        done = run(WORK / "compare", *words, "--seed", SEED, "--no-shrink", env={"LD_LIBRARY_PATH": str(library)}, timeout=PATIENCE)
+        printed, complained = running.communicate(timeout=PATIENCE)
     except subprocess.TimeoutExpired:
+        os.killpg(running.pid, signal.SIGKILL)
+        running.communicate()
         return "does not end"
-    if done.returncode == 0:
+    if running.returncode == 0:
         return None
-    if done.returncode < 0:
-        return f"stopped by signal {-done.returncode}"
-    found = [line for line in done.stdout.splitlines() if line.startswith("DIFFERENCE")]
+    if running.returncode < 0:
+        return f"stopped by signal {-running.returncode}"
+    found = [line for line in printed.splitlines() if line.startswith("DIFFERENCE")]
     if not found:
-        sys.exit(f"the comparison failed with status {done.returncode}: {done.stderr.strip()[-200:]}")
+        sys.exit(f"the comparison failed with status {running.returncode}: {complained.strip()[-200:]}")
     return found[0].split(": ", 1)[1]
 
 

@@ -1,5 +1,6 @@
 //! The program that converts a stored list, standard input to standard output, beside conversion.rs.
 
+use std::fs::{File, OpenOptions};
 use std::io::{Read, Write};
 use std::process::{Child, Command, ExitCode, Stdio};
 
@@ -46,8 +47,24 @@ fn check(file: &str, random: &mut Random) -> Result<usize, String> {
     Ok(length)
 }
 
-/// The program on so many lists.
+/// What the program says where it can read nothing, of a folder, and where it can write nothing, to a full device.
+fn check_failures(file: &str) -> Result<(), String> {
+    let said = |input: &str, output: &str, what: &str| {
+        let (input, output) = (File::open(input)?, OpenOptions::new().write(true).open(output)?);
+        let done = Command::new(file).stdin(input).stdout(output).stderr(Stdio::piped()).output()?;
+        if done.stderr == what.as_bytes() { Ok(()) } else { Err(std::io::Error::other(format!("it did not say: {}", what.trim_end()))) }
+    };
+    said("/", "/dev/null", "the input could not be read\n")
+        .and_then(|()| said(file, "/dev/full", "the output could not be written\n"))
+        .map_err(|error| format!("{file}: {error}"))
+}
+
+/// The program on so many lists, and where it can read or write nothing.
 pub fn run(file: &str, count: u64, seed: u64) -> ExitCode {
+    if let Err(what) = check_failures(file) {
+        println!("DIFFERENCE where nothing can be read or written: {what}");
+        return ExitCode::FAILURE;
+    }
     let mut bytes = 0;
     for number in 0..count {
         match check(file, &mut Random::new(seed, 3, number)) {

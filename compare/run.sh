@@ -21,3 +21,9 @@ mkdir -p target/compare
 rustc --edition 2024 -C opt-level=3 -C debug-assertions=on -C overflow-checks=on \
     -L native=target/staticlib -l static=tinladle -o target/compare/compare compare/main.rs
 target/compare/compare "$@"
+# The program is not in the library.
+if [ -x target/bin/convert_cells ]; then
+    target/compare/compare --program target/bin/convert_cells --accepted 2000
+else
+    echo "not compared: target/bin/convert_cells, which rt check convert_cells proves and builds"
+fi

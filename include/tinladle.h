@@ -1,7 +1,7 @@
 /* tinladle: the HEVC deblocking filter on one whole picture (ITU-T H.265, clause 8.7.2).
  *
  * The library is libtinladle.a. It allocates nothing, keeps nothing between calls and calls nothing, so any number of
- * threads may run it on planes of their own.
+ * threads may run it on planes and lists of their own.
  */
 #ifndef TINLADLE_H
 #define TINLADLE_H
@@ -14,7 +14,7 @@
 extern "C" {
 #endif
 
-/* A PICTURE, AS THE FUNCTIONS HERE TAKE IT
+/* A PICTURE, AS A FUNCTION TAKES IT
  *
  * Nine settings and seven lists that are read, in this order. Every value of every argument is allowed: what is not a
  * picture is refused, with a number. All lengths are counted in elements.
@@ -68,8 +68,8 @@ extern "C" {
  *   - No edge between two tiles is filtered. A stream that filters across its tiles
  *     (loop_filter_across_tiles_enabled_flag 1) is passed as one tile, with 0 alone in tile_columns and in tile_rows.
  *
- * Each function returns a number, and *place says where. The causes are looked for in this order, and the first is
- * returned:
+ * A function that takes a picture returns a number, and *place says where. The causes are looked for in this order, and
+ * the first is returned:
  *
  *   0   accepted                                                        place 0
  *   1   width or height not allowed                                     place 0
@@ -127,6 +127,7 @@ uint32_t tinladle_deblock(
  *   place                     where 0 is stored, always
  *
  * Returned is 0, and out_cells holds the converted list; or 6 where the two lengths differ, and it holds what it held.
+ * What a caller owes is as above: lengths that are true, null only where a length is 0, and no overlap.
  * No picture is taken and no record refused. A list in rule stays the same, so converting twice is converting once. A
  * picture that was accepted before the rule came is accepted with its list converted, and its output planes are the
  * same.

@@ -4,9 +4,9 @@
     in_rule.py BEFORE [AFTER]     two revisions; AFTER is HEAD where it is not given
 
 Of each stored picture of BEFORE, AFTER has the same record at the same place, byte for byte, or where it was accepted with a
-strength that has no edge the same with its cell list as target/bin/convert_cells, the proved program, converts it; and each
-line of BEFORE's output, but for `short`, which closes it. What AFTER has more comes after them. All other stored inputs and
-outputs, and the shipped example, are the same bytes. The status is 1 where that is not so.
+strength that has no edge the same with its cell list as the program target/bin/convert_cells converts it; and each line of
+BEFORE's output, but for `short`, which closes it. What AFTER has more comes after them. All other stored inputs and outputs,
+and the shipped example, are the same bytes. The status is 1 where that is not so.
 """
 
 import subprocess

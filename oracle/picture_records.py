@@ -303,7 +303,7 @@ def random_slices(random):
 
 
 def random_picture(random, largest_width=64, largest_height=48, **given):
-    """An accepted picture. `given` fixes fields of Picture."""
+    """A picture that is accepted once it is converted (C-14). `given` fixes fields of Picture."""
     fields = dict(width=8 * random.between(1, largest_width // 8), height=8 * random.between(1, largest_height // 8),
                   format=random.below(4), luma_depth=random.pick(8, 8, 10, random.between(8, 16)),
                   chroma_depth=random.pick(8, 8, 10, random.between(8, 16)), log2_ctb=random.between(4, 6),

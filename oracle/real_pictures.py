@@ -25,7 +25,7 @@ from stored import HOW, ROOT, oracle_path, stop, store
 
 REAL = ROOT / ".." / "shared" / "real"
 COUNT = 13
-# 4:2:0 with chroma indices above 57 (docs/DIFFERENCES.md, 1); stored last.
+# 4:2:0 with chroma indices above 57 (docs/DIFFERENCES.md, 1); stored thirteenth.
 PARTING = "clip_q51_p12_p9_tcm4_001"
 # The one with strengths that have no edge (document 02, C-14).
 EDGELESS = "inj_all_444_10_000"

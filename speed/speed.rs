@@ -2,9 +2,9 @@
 //! holds their planes to each other sample for sample.
 //!
 //! All are called on one thread: ours with all its checks, which are timed by themselves too, the customer's with its scalar kernels and,
-//! where the processor has AVX2, with its AVX2 kernels. The customer's filters in place, so a copy of the originals is counted, as ours makes one. It is a copy into planes
-//! that were allocated beforehand, which takes less time than a clone, so the measure is to the Rust's favour; and the lists that the
-//! Rust reads are laid out its way beforehand.
+//! where the processor has AVX2, with its AVX2 kernels. The customer's filters in place, so a copy of the originals is counted, as ours
+//! makes one. It is a copy into planes that were allocated beforehand, which takes less time than a clone, so the measure is to the
+//! Rust's favour; and the lists that the Rust reads are laid out its way beforehand.
 
 #![allow(dead_code)]
 
@@ -71,12 +71,14 @@ fn ours(p: &Picture, out: &mut Planes, answer: (u32, u64)) -> f64 {
     took
 }
 
-/// The picture with its last sample too large, and the answer: refused for it, so that all checks are made and nothing else.
-fn checked_alone(p: &Picture) -> (Picture, (u32, u64)) {
-    let mut refused = p.clone();
-    *refused.planes[2].last_mut().expect("a Cr sample") = 1 << p.chroma_depth;
-    let samples: usize = p.planes.iter().map(Vec::len).sum();
-    (refused, (10, samples as u64 - 1))
+/// The seconds of the checks alone: the picture is refused for its last sample, which is too large meanwhile.
+fn checks(p: &mut Picture, out: &mut Planes) -> f64 {
+    let last = p.planes.iter().map(Vec::len).sum::<usize>() - 1;
+    let too_large = 1 << p.chroma_depth;
+    let kept = std::mem::replace(p.planes[2].last_mut().expect("a Cr sample"), too_large);
+    let took = ours(p, out, (10, last as u64));
+    *p.planes[2].last_mut().expect("a Cr sample") = kept;
+    took
 }
 
 /// The customer's AVX2 kernels, with the pair kernels, as its own `ExecContext` takes them; none where the processor has no AVX2.
@@ -126,23 +128,22 @@ impl<'a> Theirs<'a> {
     }
 }
 
-/// The seconds of each run of ours, of its checks alone, of the scalar kernels and of the AVX2 kernels where there are any, in turn. After
-/// every run the planes are held to ours. The first run of each brings the planes into memory and is not counted.
-fn times(name: &str, timed: &Timed, runs: usize) -> [Vec<f64>; 4] {
-    let p = &timed.picture;
-    let (refused, answer) = checked_alone(p);
-    let lists = Lists::of(p);
-    let mut scalar = Theirs::new(p, &lists, exec::ExecContext::scalar());
-    let mut avx2 = avx2().map(|kernels| Theirs::new(p, &lists, kernels));
-    let (mut a, mut b) = (empty(p), empty(p));
+/// The seconds of each run of ours, of the scalar kernels, of the AVX2 kernels where there are any, and of our checks alone, in turn. After
+/// every run of theirs the planes are held to ours. The first run of each brings the planes into memory and is not counted.
+fn times(name: &str, timed: &mut Timed, runs: usize) -> [Vec<f64>; 4] {
+    let lists = Lists::of(&timed.picture);
+    let mut scalar = Theirs::new(&timed.picture, &lists, exec::ExecContext::scalar());
+    let mut avx2 = avx2().map(|kernels| Theirs::new(&timed.picture, &lists, kernels));
+    let (mut a, mut b) = (empty(&timed.picture), empty(&timed.picture));
     let mut all = [const { Vec::new() }; 4];
     for run in 0..=runs {
-        let checks = ours(&refused, &mut a, answer);
-        let mut took = [Some(ours(p, &mut a, (0, 0))), Some(checks), None, None];
-        for (theirs, took) in [Some(&mut scalar), avx2.as_mut()].into_iter().zip(&mut took[2..]) {
+        let p = &timed.picture;
+        let mut took = [Some(ours(p, &mut a, (0, 0))), None, None, None];
+        for (theirs, took) in [Some(&mut scalar), avx2.as_mut()].into_iter().zip(&mut took[1..]) {
             *took = theirs.map(|t| t.run(p, &mut b));
             assert!(a == b, "{name}: the planes differ");
         }
+        took[3] = Some(checks(&mut timed.picture, &mut b));
         if run == 0 {
             println!("{name}: {}", about(timed, &a));
         } else {
@@ -175,8 +176,9 @@ fn best_and_median(mut times: Vec<f64>, samples: usize) -> Option<(f64, f64)> {
 }
 
 /// One picture's row of the table.
-fn row(name: &str, timed: &Timed, runs: usize) -> String {
-    let [ours, checks, scalar, avx2] = times(name, timed, runs).map(|list| best_and_median(list, timed.samples()));
+fn row(name: &str, timed: &mut Timed, runs: usize) -> String {
+    let samples = timed.samples();
+    let [ours, scalar, avx2, checks] = times(name, timed, runs).map(|list| best_and_median(list, samples));
     let ((ours, our_median), (checks, _), (scalar, median)) = (ours.expect("a run"), checks.expect("a run"), scalar.expect("a run"));
     let avx2 = avx2.map_or("-".into(), |(best, _)| format!("{best:.2}"));
     let (best, medians) = (ours / scalar, our_median / median);
@@ -195,7 +197,7 @@ fn main() {
         ("sparse 2048 x 2048, depth 10", sparse, 2048, 10, runs),
         ("sparse 8192 x 8192, depth 8", sparse, 8192, 8, few),
     ];
-    let rows = pictures.map(|(name, maker, size, depth, runs)| row(name, &maker(size, depth), runs));
+    let rows = pictures.map(|(name, maker, size, depth, runs)| row(name, &mut maker(size, depth), runs));
     println!();
     println!("ns per sample of all planes, best of the runs:");
     println!();

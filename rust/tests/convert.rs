@@ -3,22 +3,8 @@
 mod common;
 
 use common::tool::{old_style, old_style_filtered};
-use common::{edges, flat, run};
+use common::{by_the_rule, edges, flat, run};
 use tinladle::{Cell, ChromaFormat, PictureBuf, Settings, convert_cells};
-
-/// What the request says, record by record; the bytes after the last whole record are copied.
-fn by_the_rule(cells: &[u8]) -> Vec<u8> {
-    let mut wanted = cells.to_vec();
-    for record in wanted.chunks_exact_mut(8) {
-        if record[1] & 1 == 0 {
-            record[2] = 0;
-        }
-        if record[1] & 2 == 0 {
-            record[3] = 0;
-        }
-    }
-    wanted
-}
 
 /// The conversion, held to the rule; and what is converted stays when it is converted again.
 fn converted(cells: &[u8]) -> Vec<u8> {

@@ -5,8 +5,8 @@ mod common;
 use std::fs;
 use std::path::Path;
 
-use common::small;
 use common::tool::{folder, load, old_style, old_style_filtered, refused, s1, store, tinladle};
+use common::{by_the_rule, small};
 use tinladle::container::StoredPicture;
 use tinladle::{PictureBuf, convert_cells};
 
@@ -21,7 +21,7 @@ fn convert(at: &Path, stored: &StoredPicture) -> String {
     fs::write(at.join("in.pic"), &before).unwrap();
     let ran = tinladle(at, &["convert", "in.pic", "out.pic"]);
     assert_eq!((ran.status, ran.err.as_str()), (0, ""));
-    let cells = convert_cells(&stored.picture.cells).unwrap();
+    let cells = by_the_rule(&stored.picture.cells);
     StoredPicture { picture: PictureBuf { cells, ..stored.picture.clone() }, ..stored.clone() }
         .write(&mut wanted)
         .unwrap();

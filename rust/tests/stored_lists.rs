@@ -1,8 +1,9 @@
-//! The stored cell lists of crates/convert_cells and crates/convert_lists, converted through the Rust API.
+//! The stored cell lists of crates/convert_cells and crates/convert_lists, and of the stored pictures that stand both
+//! unconverted and converted, converted through the Rust API.
 
 mod common;
 
-use common::stored::{input, output};
+use common::stored::{input, output, records};
 use tinladle::convert_cells;
 
 #[test]
@@ -25,4 +26,24 @@ fn many_lists() {
     }
     assert_eq!(rest, []);
     assert_eq!(made, output("convert_lists"));
+}
+
+/// Of a program's pictures, each that stands as it was with the one that it is converted to; numbered from 1.
+const PAIRS: [(&str, &[(usize, usize)]); 3] = [
+    ("picture_cases", &[(985, 986), (987, 988), (989, 990), (991, 992), (993, 994), (995, 996), (997, 998)]),
+    ("real_pictures", &[(14, 7)]),
+    ("tile_cases", &[(67, 25), (68, 32)]),
+];
+
+#[test]
+fn pictures_that_stand_unconverted_too() {
+    for (program, pairs) in PAIRS {
+        let (pictures, _) = records(program);
+        for &(before, after) in pairs {
+            let (mut old, new) = (pictures[before - 1].clone(), &pictures[after - 1]);
+            assert_ne!(old.picture.cells, new.picture.cells, "{program}: {before}");
+            old.picture.cells = convert_cells(&old.picture.cells).unwrap();
+            assert_eq!(old.picture, new.picture, "{program}: {before} and {after}");
+        }
+    }
 }

@@ -31,7 +31,7 @@ module _ (l : List ℕ) where
   pub same-length : length (converted l) ≡ length l
   unfolding converted
   same-length =
-      length-append whole (drop (8 * (length l / 8)) l)
+      length-append whole _
       ∙ omega (
         arith,
         length-table 8 (length l / 8) (λ b n. convertedByte (cellByte l n) b),

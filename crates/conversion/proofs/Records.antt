@@ -14,7 +14,7 @@ use Rattle.ints.proofs.Laws.{either}
 use Rattle.picture.specs.Causes.{verticalEdgeless}
 use Rattle.picture.specs.Cell.{bit, cellByte}
 use Rattle.conversion.specs.Converted.{convertedByte, converted}
-use Rattle.conversion.specs.Steps.{kept, recordConverted}
+use Rattle.conversion.specs.Steps.{keptByte, recordConverted}
 use Rattle.conversion.proofs.Bytes.{byteAfter, is-converted}
 
 -- ---- one byte
@@ -42,7 +42,7 @@ pub written : (l : List ℕ) (n : ℕ) {a b : ℕ}
     → set (set l (8 * n + 2) a) (8 * n + 3) b ≡ recordConverted l n
 written l n {a} {b} ea eb = ap₂ (λ (x y : ℕ). set (set l (8 * n + 2) x) (8 * n + 3) y) (ea ∙ first) eb
   where
-    first : cond (eqb (cellByte l n 1 % 2) 1) (cellByte l n 2) 0 ≡ kept l n 0 2
+    first : cond (eqb (cellByte l n 1 % 2) 1) (cellByte l n 2) 0 ≡ keptByte l n 0 2
     first = rw (div-one (cellByte l n 1))
 
 -- ---- the first n records of a list
@@ -62,10 +62,10 @@ module _ (l m : List ℕ) (n : ℕ) (room : 8 * n + 8 ≤ length l) (t : Through
   not-yet : (b : ℕ) → b < 8 → cellByte m n b ≡ cellByte l n b
   not-yet b h = t .bytes (8 * n + b) ∙ rw (le-ltb ((8 * n + b) / 8) n (omega arith))
 
-  vertical-kept : kept m n 0 2 ≡ convertedByte (cellByte l n) 2
+  vertical-kept : keptByte m n 0 2 ≡ convertedByte (cellByte l n) 2
   vertical-kept = rw (not-yet 1 (omega arith), not-yet 2 (omega arith)) (sym (vertical-byte (cellByte l n)))
 
-  horizontal-kept : kept m n 1 3 ≡ convertedByte (cellByte l n) 3
+  horizontal-kept : keptByte m n 1 3 ≡ convertedByte (cellByte l n) 3
   horizontal-kept = rw (not-yet 1 (omega arith), not-yet 3 (omega arith)) (sym (horizontal-byte (cellByte l n)))
 
   -- a byte of record n, once it is converted
@@ -91,7 +91,7 @@ module _ (l m : List ℕ) (n : ℕ) (room : 8 * n + 8 ≤ length l) (t : Through
           (ne-eqb (k % 8) 3 (λ e. three (omega arith)))))
 
   abbrev once : List ℕ
-  once = set m (8 * n + 2) (kept m n 0 2)
+  once = set m (8 * n + 2) (keptByte m n 0 2)
 
   byte-now : (k : ℕ) → getD (recordConverted m n) k 0 ≡ byteAfter l (n + 1) k
   byte-now k = go (eqb k (8 * n + 3)) refl (eqb k (8 * n + 2)) refl
@@ -101,7 +101,7 @@ module _ (l m : List ℕ) (n : ℕ) (room : 8 * n + 8 ≤ length l) (t : Through
       go true three b _ =
           let e : k ≡ 8 * n + 3 = eqb-true _ _ three in
           ap (λ (j : ℕ). getD (recordConverted m n) j 0) e
-          ∙ getD-set-same once (8 * n + 3) _ 0 (omega (arith, length-set m (8 * n + 2) (kept m n 0 2), t .long))
+          ∙ getD-set-same once (8 * n + 3) _ 0 (omega (arith, length-set m (8 * n + 2) (keptByte m n 0 2), t .long))
           ∙ horizontal-kept
           ∙ by-now 3 (omega arith)
           ∙ ap (byteAfter l (n + 1)) (sym e)

@@ -3,10 +3,9 @@ ghost use Prim.Native.Nat.{_+_, _*_, _≤_};
 ghost use mathlib.Core.Bool.{cond};
 ghost use mathlib.Core.Path.{_≡_};
 ghost use lib.Dec.{eqb};
-ghost use lib.ListN.{length, getD, set};
-ghost use Rattle.picture.specs.Cell.{bit};
+ghost use lib.ListN.{length};
 ghost use Rattle.picture.specs.Lent.{given, left};
-ghost use Rattle.conversion.specs.Converted.{converted};
+ghost use Rattle.conversion.specs.Converted.{converted, convertedInto};
 ghost use Rattle.conversion.specs.Steps.{recordConverted};
 
 // A strength as it may stay.
@@ -44,7 +43,7 @@ fn convert_records(cells: &mut [u8])
 // written.
 pub fn convert_cells(cells: &[u8], out: &mut [u8]) -> bool
     ensures { λ r. ⌜ r ≡ eqb (length (given cells)) (length (given out)) ⌝ }
-    ensures { λ r. ⌜ left out ≡ cond r (converted (given cells)) (given out) ⌝ }
+    ensures { λ _. ⌜ left out ≡ convertedInto (given cells) (given out) ⌝ }
 {
     if cells.len() != out.len() {
         return false;

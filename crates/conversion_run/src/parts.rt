@@ -1,4 +1,4 @@
-// The input, part by part. Each function answers whether all that was asked for came and was written.
+// The input, part by part.
 use conversion::convert_cells;
 use libc::STDERR_FILENO;
 use libc::STDIN_FILENO;
@@ -6,9 +6,10 @@ use libc::STDOUT_FILENO;
 ghost use Prim.Native.Nat.{_≤_, min};
 ghost use mathlib.Core.Path.{_≡_};
 ghost use lib.ListN.{length};
-ghost use Rattle.picture.specs.Lent.{given};
+ghost use Rattle.conversion.specs.Converted.{convertedInto};
+ghost use Rattle.picture.specs.Lent.{given, left};
 
-// The bytes of a part: whole records, so that only the last part can end within one (`in-parts`, crate converted_cells).
+// The bytes of a part: whole records, so that only the last part can end within one (`in-parts` of converted_cells).
 const PART: usize = 32768;
 
 // One read, and how many bytes it gave: none at the end of the input, nor where it fails, which is said.
@@ -22,7 +23,8 @@ fn read_some(list: &mut [u8]) -> usize
     io::count(got, list)
 }
 
-// Fills the list as far as the input goes, and answers how far.
+// Fills the list as far as the input goes, and answers how far. The kit's `read_full` does so too, but takes a read that
+// fails for the end.
 fn fill(list: &mut [u8]) -> usize
     ensures { λ r. ⌜ r ≤ length (given list) ⌝ }
 {
@@ -37,8 +39,10 @@ fn fill(list: &mut [u8]) -> usize
     done
 }
 
-// Writes the list converted, by way of another as long; a write that fails is said.
-fn put_converted(list: &[u8], made: &mut [u8]) -> bool {
+// Writes the list converted, by way of another as long; a write that fails is said. Answers whether all was written.
+fn put_converted(list: &[u8], made: &mut [u8]) -> bool
+    ensures { λ _. ⌜ left made ≡ convertedInto (given list) (given made) ⌝ }
+{
     convert_cells(list, &mut made[..]);
     let is_written = io::write_all(STDOUT_FILENO, made);
     if !is_written {
@@ -47,7 +51,7 @@ fn put_converted(list: &[u8], made: &mut [u8]) -> bool {
     is_written
 }
 
-// The next n bytes of the input.
+// The next n bytes of the input; whether there were so many, and all were written.
 fn convert_part(asked: &mut [u8], made: &mut [u8], n: usize) -> bool
     requires { ⌜ (n ≤ length (now asked)) × (n ≤ length (now made)) ⌝ }
 {
@@ -74,7 +78,8 @@ fn part_of(left: u64) -> usize
     }
 }
 
-// At most so many bytes of the input; `u64::MAX` is more than any input has.
+// At most so many bytes of the input, and whether there were so many and all were written. `u64::MAX` is more than any
+// input has.
 pub fn convert_input(most: u64) -> bool {
     let mut left = most;
     while left > 0 {

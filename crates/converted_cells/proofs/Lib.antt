@@ -1,3 +1,4 @@
+pub mod Example
 pub mod Lists
 pub mod Pictures
 pub mod Rule

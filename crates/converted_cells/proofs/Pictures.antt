@@ -11,8 +11,8 @@ use Rattle.conversion.proofs.Bytes.{same-length}
 use Rattle.conversion.proofs.Records.{vertical-byte, horizontal-byte, other-byte}
 use Rattle.filter.specs.Finished.{finished, outputs}
 use Rattle.filter.specs.Segment.{vertical, horizontal}
-use Rattle.filter.proofs.Alike.{SameCell, cells-alike}
-use Rattle.picture.specs.Accepted.{CellOk, EdgesOk, PictureOk}
+use Rattle.filter.proofs.Alike.{CellsAlike, cells-alike}
+use Rattle.picture.specs.Accepted.{CellOk, AllStrengthsOk, PictureOk}
 use Rattle.picture.specs.Causes.{badPlanes, cellRules, verdict}
 use Rattle.picture.specs.Cell.{bit, cellAt, cellByte, suppressed}
 use Rattle.picture.specs.Ledger.{Verdict, acceptance}
@@ -81,7 +81,7 @@ module _ (l : List ℕ) (n : ℕ) where
   }
 
   -- the filter does not tell the two records apart
-  cell-same : SameCell (cellAt l n) (cellAt (converted l) n)
+  cell-same : CellsAlike (cellAt l n) (cellAt (converted l) n)
   unfolding cellAt suppressed
   cell-same = record {
     qp = sym (kept-byte 0 (omega arith) refl refl);
@@ -94,7 +94,7 @@ module _ (l : List ℕ) (n : ℕ) where
       | vertical ↦ λ e. sym (vertical-bs ∙ at-edge whole (edge 0) _ e)
       | horizontal ↦ λ e. sym (horizontal-bs ∙ at-edge whole (edge 1) _ e)
     ];
-    mark = λ pcm. ap (λ (f : ℕ). bit f 2 || (bit f 3 && pcm) || bit f 4) flags;
+    suppressed-same = λ pcm. ap (λ (f : ℕ). bit f 2 || (bit f 3 && pcm) || bit f 4) flags;
   }
     where
       flags : cellByte l n 1 ≡ cellByte (converted l) n 1
@@ -125,8 +125,8 @@ module _ (p : Picture) where
       samples = ok .samples;
     }
 
-    edges : EdgesOk (convertedPicture p)
-    edges n h = lists-converted .in-rule (p .cells) n (omega (arith, same-length (p .cells), ok .cells-long))
+    strengths : AllStrengthsOk (convertedPicture p)
+    strengths n h = lists-converted .in-rule (p .cells) n (omega (arith, same-length (p .cells), ok .cells-long))
 
   module _ (lent : Planes) (so-far : verdictBefore p lent ≡ acceptance) where
     accepted : verdict (convertedPicture p) lent ≡ acceptance
@@ -134,7 +134,7 @@ module _ (p : Picture) where
     accepted =
         let (ok, beside, _) = picture-by (badPlanes p lent) [] p so-far in
         picture-is (badPlanes p lent) cellRules (convertedPicture p) (picture-ok ok) beside
-        (λ n h. strengths-in (cellByte cells n) (edges ok n h))
+        (λ n h. strengths-in (cellByte cells n) (strengths ok n h))
 
     same-planes : outputs (convertedPicture p) lent ≡ outputsBefore p lent
     unfolding outputs

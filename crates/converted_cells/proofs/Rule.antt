@@ -7,7 +7,7 @@ use native.Mathlib.Omega.{arith}
 use lib.Dec.{eqb}
 use lib.ListN.{take, drop}
 use Rattle.filter.specs.Finished.{finished, outputs}
-use Rattle.picture.specs.Accepted.{EdgesOk}
+use Rattle.picture.specs.Accepted.{AllStrengthsOk}
 use Rattle.picture.specs.Causes.{badCell, badPlanes, broken, cause9, cause10, cellRules, ledger, verdict}
 use Rattle.picture.specs.Cell.{cellByte, cellCount}
 use Rattle.picture.specs.Ledger.{Entry, Verdict, acceptance, entry, firstOf}
@@ -40,7 +40,7 @@ module _ (p : Picture) (lent : Planes) where
 
   -- ---- a picture in rule
 
-  module _ (in-rule : EdgesOk p) where
+  module _ (in-rule : AllStrengthsOk p) where
     no-more : (n : ℕ) → n < cellCount p → cause9 cellRules p .bad n ≡ cause9 [] p .bad n
     no-more n h =
         none-last (ranges n) (broken cellRules (byte n)) (strengths-in (byte n) (in-rule n h))

@@ -10,7 +10,7 @@ use lib.Dec.{eqb}
 use lib.ListN.{length}
 use Rattle.conversion.specs.Converted.{converted}
 use Rattle.filter.specs.Finished.{finished, outputs}
-use Rattle.picture.specs.Accepted.{EdgesOk, StrengthsOk}
+use Rattle.picture.specs.Accepted.{AllStrengthsOk, StrengthsOk}
 use Rattle.picture.specs.Causes.{badPlanes, broken, cellRules, ledger, verdict}
 use Rattle.picture.specs.Cell.{cellByte, cellCount}
 use Rattle.picture.specs.Ledger.{Cause, Verdict, acceptance, anyOf, entry, firstOf}
@@ -59,6 +59,6 @@ pub record PicturesConverted : Type 0 where
   -- unconverted it is refused with 9, at the first cell out of rule, and accepted where there is none
   pub rule-alone : (p : Picture) (lent : Planes) → verdictBefore p lent ≡ acceptance
       → verdict p lent ≡ firstOf (entry 9 (ruleCause p) ∷ [])
-  -- nothing else moves: a picture in rule, whatever else is wrong with it, has the answer and the planes of before
-  pub as-before : (p : Picture) (lent : Planes) → EdgesOk p → verdict p lent ≡ verdictBefore p lent
-  pub planes-as-before : (p : Picture) (lent : Planes) → EdgesOk p → outputs p lent ≡ outputsBefore p lent
+  -- a picture in rule, whatever else is wrong with it, has the answer and the planes of before
+  pub as-before : (p : Picture) (lent : Planes) → AllStrengthsOk p → verdict p lent ≡ verdictBefore p lent
+  pub planes-as-before : (p : Picture) (lent : Planes) → AllStrengthsOk p → outputs p lent ≡ outputsBefore p lent

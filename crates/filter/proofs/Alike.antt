@@ -97,15 +97,15 @@ module _ (p : Picture) (cells slices cells′ slices′ : List ℕ) where
 -- ---- cells that the filter does not tell apart
 
 -- a strength counts only where its edge is there
-pub record SameCell (a b : Cell) : Type 0 where
+pub record CellsAlike (a b : Cell) : Type 0 where
   pub qp : a .qp ≡ b .qp
   pub slice : a .slice ≡ b .slice
   pub edge : (d : Direction) → edgeFlag d a ≡ edgeFlag d b
   pub strength : (d : Direction) → edgeFlag d a ≡ true → bsOf d a ≡ bsOf d b
-  pub mark : (pcm : Bool) → suppressed pcm a ≡ suppressed pcm b
+  pub suppressed-same : (pcm : Bool) → suppressed pcm a ≡ suppressed pcm b
 
 module _ (t : Settings) (slices : List ℕ) (d : Direction) {p q p′ q′ : Cell} (tile : Bool)
-    (P : SameCell p p′) (Q : SameCell q q′) where
+    (P : CellsAlike p p′) (Q : CellsAlike q q′) where
   at-edge : (c : Component) → edgeFlag d q ≡ true
       → between t slices c d p q tile ≡ between t slices c d p′ q′ tile
   unfolding between gate slicesOpen lumaFilter chromaFilter
@@ -125,14 +125,14 @@ module _ (t : Settings) (slices : List ℕ) (d : Direction) {p q p′ q′ : Cel
       go true e = at-edge c e
       go false e = elsewhere c e
 
-module _ (p : Picture) (cells′ : List ℕ) (same : (n : ℕ) → SameCell (cellAt (p .cells) n) (cellAt cells′ n)) where
+module _ (p : Picture) (cells′ : List ℕ) (same : (n : ℕ) → CellsAlike (cellAt (p .cells) n) (cellAt cells′ n)) where
   segments-alike : Alike p (p .cells) (p .slices) cells′ (p .slices)
   unfolding segmentAt sameTile
   segments-alike c d a b =
       between-alike (p .settings) (p .slices) d (sameTile p (a .x) (a .y) (b .x) (b .y)) (same _) (same _) c
 
   pub cells-alike : finished p ≡ finished (withLists cells′ (p .slices) p)
-  cells-alike = finished-alike p (p .cells) (p .slices) cells′ (p .slices) segments-alike (λ c x y. same _ .mark _)
+  cells-alike = finished-alike p (p .cells) (p .slices) cells′ (p .slices) segments-alike (λ c x y. same _ .suppressed-same _)
 
 -- ---- what is left in the outputs
 

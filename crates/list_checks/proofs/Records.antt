@@ -1,7 +1,7 @@
 -- The bytes of slice and cell records and the tile starts, as the checks read them.
 use Prim.Native.Nat.{ℕ, zero, suc, _+_, _-_, _*_, _/_, _%_, _≤_, _<_, min}
 use mathlib.Core.Path.{_≡_, refl, sym, ap, _∙_}
-use mathlib.Core.Bool.{Bool, true, false, cond, not, _&&_, _||_, and-false, and-true}
+use mathlib.Core.Bool.{Bool, true, false, cond, not, _||_, and-false, and-true}
 use mathlib.Core.List.{List, [], _∷_, _++_}
 use mathlib.Core.Logic.{_⊎_, inl, inr}
 use native.Mathlib.Nat.{add-zero, div-one}
@@ -10,7 +10,7 @@ use borrow.Author.Tests.{lt-ltb, le-ltb, lt-leb, le-leb, ne-eqb}
 use lib.Dec.{leb, ltb, eqb}
 use lib.ListN.{length, getD}
 use Rattle.ints.proofs.Laws.{either}
-use Rattle.picture.specs.Causes.{Rule, badCell, badOrder, badSlice, broken, cellRules, cellsCause}
+use Rattle.picture.specs.Causes.{Rule, badCell, badOrder, badSlice, broken, cellRules, cellsCause, edgeless}
 use Rattle.picture.specs.Cell.{cellAt, cellByte}
 use Rattle.picture.specs.declared.Cell.{Cell}
 use Rattle.picture.specs.Ledger.{Cause, anyOf, firstBad, placeOf}
@@ -134,9 +134,7 @@ module _ (least count : ℕ) (cells : List ℕ) (n : ℕ) where
       (badQpByte least (cell .qp)
       ++ ((ltb 31 (cell .flags) ∷ ltb 2 (cell .bsv) ∷ ltb 2 (cell .bsh) ∷ [])
       ++ badTail count (cell .slice) (cellByte cells n 6) (cellByte cells n 7)))
-      ++ ((ltb 0 (cell .bsv) && not (eqb (left % 2) 1))
-      ∷ (ltb 0 (cell .bsh) && not (eqb (cell .flags / 2 % 2) 1))
-      ∷ [])
+      ++ (edgeless (eqb (left % 2) 1) (cell .bsv) ∷ edgeless (eqb (cell .flags / 2 % 2) 1) (cell .bsh) ∷ [])
 
   read-tests : (cell : Cell) → cell ≡ cellAt cells n
       → anyOf (tests cell (cell .flags)) ≡ anyOf (badRecord least count cells n ++ broken cellRules (cellByte cells n))
@@ -154,8 +152,8 @@ module _ (least count : ℕ) (cells : List ℕ) (n : ℕ) where
       ≡ anyOf (badRecord least count cells n ++ broken cellRules (cellByte cells n))
   record-tests cell told eq ev eh et =
       together (badQpByte least (cell .qp)) (badTail count (cell .slice) (cellByte cells n 6) (cellByte cells n 7))
-      (ltb 31 (cell .flags)) (ltb 2 (cell .bsv)) (ltb 0 (cell .bsv) && not (eqb (cell .flags % 2) 1))
-      (ltb 2 (cell .bsh)) (ltb 0 (cell .bsh) && not (eqb (cell .flags / 2 % 2) 1)) eq ev eh et
+      (ltb 31 (cell .flags)) (ltb 2 (cell .bsv)) (edgeless (eqb (cell .flags % 2) 1) (cell .bsv)) (ltb 2 (cell .bsh))
+      (edgeless (eqb (cell .flags / 2 % 2) 1) (cell .bsh)) eq ev eh et
       ∙ read-tests cell told
 
 module _ {depth : ℕ} (h : depth ≤ 16) (slices : List ℕ) {count : ℕ} (e : count ≡ sliceCount slices) where

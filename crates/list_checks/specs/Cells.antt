@@ -1,9 +1,11 @@
 -- Cause 9 of the ledger on machine numbers: a record's QP byte is held to its least and its largest byte, and its
--- slice number to the number of slice records. proofs/Records.antt shows that these are the tests of badCell.
+-- slice number to the number of slice records. proofs/Records.antt shows that the tests of badRecord are those of
+-- badCell.
 use Prim.Native.Nat.{ℕ}
-use mathlib.Core.Bool.{Bool, not, _&&_}
+use mathlib.Core.Bool.{Bool, not}
 use mathlib.Core.List.{List, [], _∷_, _++_}
 use lib.Dec.{leb, ltb, eqb}
+use Rattle.picture.specs.Causes.{edgeless}
 use Rattle.picture.specs.Cell.{cellAt, cellByte}
 use Rattle.picture.specs.declared.Cell.{Cell}
 
@@ -23,6 +25,6 @@ badRecord least count cells n =
     ++ ((ltb 31 (cell .flags) ∷ ltb 2 (cell .bsv) ∷ ltb 2 (cell .bsh) ∷ [])
     ++ badTail count (cell .slice) (cellByte cells n 6) (cellByte cells n 7))
 
--- a strength by itself: its range, and C-14's rule
+-- a strength by itself, as the code tries it: its range, and C-14's rule
 abbrev pub badStrength : Bool → ℕ → List Bool
-badStrength edge bs = ltb 2 bs ∷ (ltb 0 bs && not edge) ∷ []
+badStrength edge bs = ltb 2 bs ∷ edgeless edge bs ∷ []

@@ -50,7 +50,7 @@ fn bad_tail(slice: u16, sixth: u8, seventh: u8, count: usize) -> bool
     slice_end(count) <= (slice as usize) + 65536 * (sixth as usize) + 16777216 * (seventh as usize)
 }
 
-// Cell record n is out of range or against the rule. Every cell is looked at, so that each field has one test.
+// Cell record n is out of range or against C-14's rule. One test for each field, since this runs for every cell.
 fn bad_cell_at(cells: &[u8], n: usize, least: u8, count: usize) -> bool
     requires { ⌜ (8 * n + 8 ≤ length (now cells)) × (least ≤ 115) ⌝ }
     ensures { λ r. ⌜ r ≡ anyOf

@@ -3,7 +3,7 @@ use mathlib.Core.Path.{_≡_, refl, ap, sym, subst, _∙_}
 use mathlib.Core.Bool.{Bool, true, false, _&&_, _||_, or-true}
 use Rattle.filter.specs.Finished.{restored, finishedPlane, finished}
 use Rattle.filter.specs.Segment.{Direction, vertical, horizontal, edgeFlag, bsOf}
-use Rattle.filter.proofs.Alike.{SameCell, cells-alike, outputs-alike}
+use Rattle.filter.proofs.Alike.{CellsAlike, cells-alike, outputs-alike}
 use Rattle.picture.specs.Cell.{bit, cellAt, cellBeneath, suppressed}
 use Rattle.picture.specs.declared.Cell.{Cell}
 use Rattle.picture.specs.Picture.{Picture}
@@ -47,13 +47,13 @@ mark-same pcm c =
     let t = turns (c .flags) in
     rw (t .second, t .third, t .fourth) (or-same (bit (c .flags) 2) (bit (c .flags) 3 && pcm) (bit (c .flags) 4))
 
-turned-same : (c : Cell) → SameCell c (turnedCell c)
+turned-same : (c : Cell) → CellsAlike c (turnedCell c)
 turned-same c = record {
   qp = refl;
   slice = refl;
   edge = λ d. sym (edge-same d c);
   strength = λ d _. bs-same d c;
-  mark = λ pcm. sym (mark-same pcm c);
+  suppressed-same = λ pcm. sym (mark-same pcm c);
 }
 
 -- ---- the turned picture
@@ -61,7 +61,7 @@ turned-same c = record {
 finished-same : (p : Picture) → finished p ≡ finished (turned p)
 finished-same p =
     cells-alike p (turnedFrom 0 (p .cells))
-    (λ n. subst (SameCell (cellAt (p .cells) n)) (sym (cell-turned (p .cells) n)) (turned-same (cellAt (p .cells) n)))
+    (λ n. subst (CellsAlike (cellAt (p .cells) n)) (sym (cell-turned (p .cells) n)) (turned-same (cellAt (p .cells) n)))
 
 pub palette-as-lossless : PaletteAsLossless
 palette-as-lossless = record {

@@ -151,7 +151,7 @@ qp-range {depth} {slices} {byte} ok =
 
 -- ---- the rules of a cell, and C-14's
 
--- a cell breaks none of the rules
+-- no cell breaks one of the rules
 abbrev pub Obeys : List Rule → Picture → Type 0
 Obeys rules p = (n : ℕ) → n < cellCount p → NoneOf (broken rules (cellByte (p .cells) n))
 
@@ -228,7 +228,7 @@ accepted-by p outputs e =
     let (picture, lent, rules) = picture-by (badPlanes p outputs) cellRules p e in
     record {
       picture = picture;
-      edges = λ n h. strengths-out (cellByte (p .cells) n) (rules n h);
+      strengths = λ n h. strengths-out (cellByte (p .cells) n) (rules n h);
       outputs-long = planes-out p outputs lent;
     }
 
@@ -268,4 +268,4 @@ pub accepted-is : (p : Picture) (outputs : Planes) → Accepted p outputs → ve
 unfolding verdict
 accepted-is p outputs ok =
     picture-is (badPlanes p outputs) cellRules p (ok .picture) (planes-in p outputs (ok .outputs-long))
-    (λ n h. strengths-in (cellByte (p .cells) n) (ok .edges n h))
+    (λ n h. strengths-in (cellByte (p .cells) n) (ok .strengths n h))

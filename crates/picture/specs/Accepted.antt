@@ -93,12 +93,12 @@ pub record PictureOk (p : Picture) : Type 0 where
       (c : Component) (k : ℕ) → k < length (planeOf (p .originals) c)
       → getD (planeOf (p .originals) c) k 0 ≤ largest (p .settings) c
 
--- the rule, in every cell
-abbrev pub EdgesOk : Picture → Type 0
-EdgesOk p = (n : ℕ) → n < cellCount p → StrengthsOk (cellByte (p .cells) n)
+-- C-14's rule, in every cell
+abbrev pub AllStrengthsOk : Picture → Type 0
+AllStrengthsOk p = (n : ℕ) → n < cellCount p → StrengthsOk (cellByte (p .cells) n)
 
--- with the output planes that are lent to the stage
+-- with that rule, and the output planes that are lent to the stage
 pub record Accepted (p : Picture) (outputs : Planes) : Type 0 where
   pub picture : PictureOk p
-  pub edges : EdgesOk p
+  pub strengths : AllStrengthsOk p
   pub outputs-long : PlanesOk p outputs

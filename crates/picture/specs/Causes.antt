@@ -121,13 +121,16 @@ badCell depth slices byte =
 abbrev pub Rule : Type 0
 Rule = (ℕ → ℕ) → Bool
 
--- Document 02, C-14: "vertical bS above 0 needs bit 0, horizontal bS above 0 bit 1"; these two hold of a record with a
--- strength that has no edge
+-- Document 02, C-14: "vertical bS above 0 needs bit 0, horizontal bS above 0 bit 1"; a strength that has no edge breaks
+-- it
+abbrev pub edgeless : Bool → ℕ → Bool
+edgeless edge bs = ltb 0 bs && not edge
+
 abbrev pub verticalEdgeless : Rule
-verticalEdgeless byte = ltb 0 (byte 2) && not (bit (byte 1) 0)
+verticalEdgeless byte = edgeless (bit (byte 1) 0) (byte 2)
 
 abbrev pub horizontalEdgeless : Rule
-horizontalEdgeless byte = ltb 0 (byte 3) && not (bit (byte 1) 1)
+horizontalEdgeless byte = edgeless (bit (byte 1) 1) (byte 3)
 
 abbrev pub broken : List Rule → (ℕ → ℕ) → List Bool
 broken [] byte = []

@@ -107,7 +107,7 @@ accepted-still p lent told is ey eb er =
     let ok = accepted-by p lent (accepts p lent told is) in
     record {
       picture = ok .picture;
-      edges = ok .edges;
+      strengths = ok .strengths;
       outputs-long =
           elim [ Y ↦ ey ∙ ok .outputs-long Y | Cb ↦ eb ∙ ok .outputs-long Cb | Cr ↦ er ∙ ok .outputs-long Cr ];
     }

@@ -6,7 +6,7 @@ use native.Mathlib.Nat.{le-div-iff-mul-le}
 use native.Mathlib.Omega.{arith}
 use lib.ListN.{length, getD}
 use lib.Pow.{pow-pos}
-use Rattle.picture.specs.Accepted.{PictureOk, SizeOk, StartsOk, CellOk, EdgesOk}
+use Rattle.picture.specs.Accepted.{PictureOk, SizeOk, StartsOk, CellOk, AllStrengthsOk}
 use Rattle.picture.specs.Cell.{cellByte, cellCount, cellNumber}
 use Rattle.picture.specs.Cut.{IsTile, tilePart, cellPart, tileOfPlane, cut}
 use Rattle.picture.specs.Picture.{Picture, planeOf, planeWidth, planeHeight, across, down, largest, ctbSize}
@@ -84,9 +84,9 @@ module _ {p : Picture} (ok : PictureOk p) {i j : ℕ} (tile : IsTile p i j) wher
       let f = found n h in
       cell-ok (p .settings .luma-depth) (p .slices) _ _ (f .same) (ok .cells (f .number) (f .there))
 
-  pub edges : EdgesOk p → EdgesOk (cut p i j)
+  pub strengths : AllStrengthsOk p → AllStrengthsOk (cut p i j)
   unfolding cut
-  edges obeyed n h = let f = found n h in strengths-same _ _ (f .same) (obeyed (f .number) (f .there))
+  strengths obeyed n h = let f = found n h in strengths-same _ _ (f .same) (obeyed (f .number) (f .there))
 
   module _ (c : Component) where
     abbrev W : ℕ

@@ -9,7 +9,7 @@ use Rattle.picture.specs.Ledger.{acceptance}
 use Rattle.picture.specs.Picture.{Picture, Planes}
 use Rattle.picture.proofs.Accepted.{accepted-by, accepted-is}
 use Rattle.tiles_apart.specs.Term3.{AcceptedTile, Apart, Term3}
-use Rattle.tiles_apart.proofs.Accept.{accepted, edges}
+use Rattle.tiles_apart.proofs.Accept.{accepted, strengths}
 use Rattle.tiles_apart.proofs.Outputs.{outputs-finished, finished-differences, finished-tile}
 
 module _ (p : Picture) (lent : Planes) (i j : ℕ) (given : AcceptedTile p lent i j) where
@@ -29,7 +29,7 @@ module _ (p : Picture) (lent : Planes) (i j : ℕ) (given : AcceptedTile p lent 
       accepted-is (cut p i j) own
       (record {
         picture = accepted ok (given .tile);
-        edges = edges ok (given .tile) (whole .edges);
+        strengths = strengths ok (given .tile) (whole .strengths);
         outputs-long = own-long;
       }) in
       let cut-finished : outputs (cut p i j) own ≡ finished (cut p i j) =

@@ -6,9 +6,9 @@ use mathlib.Core.Bool.{cond}
 use mathlib.Core.List.{List}
 use lib.Dec.{eqb}
 use lib.ListN.{length}
-use Rattle.conversion.specs.Converted.{converted}
+use Rattle.conversion.specs.Converted.{convertedInto}
 
 pub record Converted (cells lent : List ℕ) (number place : ℕ) (left : List ℕ) : Type 0 where
   pub number-is : number ≡ cond (eqb (length cells) (length lent)) 0 6
   pub place-is : place ≡ 0
-  pub left-is : left ≡ cond (eqb (length cells) (length lent)) (converted cells) lent
+  pub left-is : left ≡ convertedInto cells lent

@@ -1,6 +1,5 @@
 // A stored cell list that C lends, converted.
 use conversion::convert_cells;
-ghost use mathlib.Core.Path.{_≡_};
 ghost use Rattle.picture.specs.Lent.{given, left};
 ghost use Rattle.tinladle.specs.Lists.{Converted};
 

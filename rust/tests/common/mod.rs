@@ -63,3 +63,17 @@ pub fn run_into(picture: &PictureBuf, lengths: [usize; 3]) -> Result<PlanesBuf, 
 pub fn run(picture: &PictureBuf) -> Result<PlanesBuf, Refusal> {
     run_into(picture, picture.planes.lengths())
 }
+
+/// A cell list converted as document 02's C-14 says, record by record; the bytes after the last whole record are copied.
+pub fn by_the_rule(cells: &[u8]) -> Vec<u8> {
+    let mut wanted = cells.to_vec();
+    for record in wanted.chunks_exact_mut(8) {
+        if record[1] & 1 == 0 {
+            record[2] = 0;
+        }
+        if record[1] & 2 == 0 {
+            record[3] = 0;
+        }
+    }
+    wanted
+}

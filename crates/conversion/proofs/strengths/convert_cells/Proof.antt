@@ -31,12 +31,13 @@ copied c =
     c .copy .ensures .1 ∙ all-taken (a .cells .now) (a .out .now) (same-lengths c)
 
 returns : tie.Need-returns
-returns c = (sym (ne-eqb _ _ (c .if1 .taken)), refl)
+returns c = let e = ne-eqb _ _ (c .if1 .taken) in (sym e, rw e refl)
 
 returns-2 : tie.Need-returns-2
 returns-2 c =
     let done = c .before .before in
-    (sym (eq-eqb _ _ (same-lengths (copy c))), done .convert-records .ensures ∙ ap converted (copied (copy c)))
+    let e = eq-eqb _ _ (same-lengths (copy c)) in
+    (sym e, rw e (done .convert-records .ensures ∙ ap converted (copied (copy c))))
 
 pub convert-cells-spec : {M : Type 1} → statement M
 convert-cells-spec =

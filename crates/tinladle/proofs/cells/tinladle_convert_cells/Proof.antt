@@ -7,19 +7,19 @@ use mathlib.Core.List.{List}
 use borrow.Author.Needs.{needs}
 use lib.Dec.{eqb}
 use lib.ListN.{length}
-use Rattle.conversion.specs.Converted.{converted}
+use Rattle.conversion.specs.Converted.{convertedInto}
 use Rattle.tinladle.specs.Lists.{Converted}
 use Rattle.tinladle.proofs.cells.tinladle_convert_cells.Statement.{statement}
 use Rattle.tinladle.proofs.cells.tinladle_convert_cells.Tie as tie
 
 -- by what the conversion answers
 answered : (cells lent left : List ℕ) (r : Bool) {number : ℕ} → number ≡ cond r 0 6
-    → r ≡ eqb (length cells) (length lent) → left ≡ cond r (converted cells) lent
+    → r ≡ eqb (length cells) (length lent) → left ≡ convertedInto cells lent
     → Converted cells lent number 0 left
 answered cells lent left r told same is = record {
   number-is = told ∙ ap (λ (b : Bool). cond b 0 6) same;
   place-is = refl;
-  left-is = is ∙ ap (λ (b : Bool). cond b (converted cells) lent) same;
+  left-is = is;
 }
 
 returns : tie.Need-returns
