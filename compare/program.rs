@@ -56,7 +56,7 @@ fn check_failures(file: &str) -> Result<(), String> {
     };
     said("/", "/dev/null", "the input could not be read\n")
         .and_then(|()| said(file, "/dev/full", "the output could not be written\n"))
-        .map_err(|error| format!("{file}: {error}"))
+        .map_err(|error| error.to_string())
 }
 
 /// The program on so many lists, and where it can read or write nothing.
