@@ -23,8 +23,8 @@ fn read_some(list: &mut [u8]) -> usize
     io::count(got, list)
 }
 
-// Fills the list as far as the input goes, and answers how far. The kit's `read_full` does so too, but takes a read that
-// fails for the end.
+// Fills the list as far as the input goes, and answers how far. The kit's `read_full` does so too, but takes a read
+// that fails for the end.
 fn fill(list: &mut [u8]) -> usize
     ensures { λ r. ⌜ r ≤ length (given list) ⌝ }
 {

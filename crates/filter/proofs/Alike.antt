@@ -132,7 +132,8 @@ module _ (p : Picture) (cells′ : List ℕ) (same : (n : ℕ) → CellsAlike (c
       between-alike (p .settings) (p .slices) d (sameTile p (a .x) (a .y) (b .x) (b .y)) (same _) (same _) c
 
   pub cells-alike : finished p ≡ finished (withLists cells′ (p .slices) p)
-  cells-alike = finished-alike p (p .cells) (p .slices) cells′ (p .slices) segments-alike (λ c x y. same _ .suppressed-same _)
+  cells-alike =
+      finished-alike p (p .cells) (p .slices) cells′ (p .slices) segments-alike (λ c x y. same _ .suppressed-same _)
 
 -- ---- what is left in the outputs
 

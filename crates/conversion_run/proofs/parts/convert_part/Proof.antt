@@ -43,7 +43,8 @@ convert-part-spec =
     (λ c. sym (length-take-le _ (filled (c .before .before .before)) (read (c .before .before .before))))
     (λ c. room (c .before .before .before))
     (λ c.
-    let f = c .before .before .before .before in
+    let read = c .before .before in
+    let f = read .before .before in
     sym (length-take-le (f .fill .result) (call f .args .made .now) (room f)))
     (λ c κs. search needs)
     (λ c. search needs)
