@@ -1,7 +1,8 @@
 //! The segment bench of document 01, with the customer's own Rust doing the filtering.
 //!
-//! Ours: reading the records, the refusals, `short` and the text. The customer's: the average QP, the
-//! table indices and their clamps, the tables, the scaling, the decision and the filter.
+//! Ours: reading the records, the refusals, `short` and the text, and the counts of document 02's C-20, by
+//! the customer's decision. The customer's: the average QP, the table indices and their clamps, the
+//! tables, the scaling, the decision and the filter.
 
 #![allow(dead_code)] // most of the customer's file is not called from here
 
@@ -163,13 +164,18 @@ fn answer(record: &[u8], out: &mut impl Write) -> io::Result<()> {
         Ok(segment) => segment,
         Err(number) => return writeln!(out, "refused {number}"),
     };
+    let before = segment.lines;
     let (decision, tc) = deblock::filter_segment(&mut segment);
-    let kind = match decision {
-        deblock::LumaDecision::Skip => "skip",
-        deblock::LumaDecision::Strong => "strong",
-        deblock::LumaDecision::Weak { .. } => "weak",
+    let (kind, p, q) = match decision {
+        deblock::LumaDecision::Skip => ("skip", 0, 0),
+        deblock::LumaDecision::Strong => ("strong", 3, 3),
+        deblock::LumaDecision::Weak { do_p1, do_q1 } => ("weak", 1 + usize::from(do_p1), 1 + usize::from(do_q1)),
     };
-    writeln!(out, "{kind} {tc}")?;
+    // The customer's filter leaves what lies beyond the counted samples.
+    for (old, new) in before.iter().zip(&segment.lines) {
+        assert_eq!((&old[..4 - p], &old[4 + q..]), (&new[..4 - p], &new[4 + q..]));
+    }
+    writeln!(out, "{kind} {tc} {p} {q}")?;
     for line in segment.lines {
         writeln!(out, "{}", line.map(|sample| sample.to_string()).join(" "))?;
     }

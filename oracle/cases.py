@@ -16,6 +16,9 @@ is 5, so that the limits are:
     strong         2 * dpq below 9, |p3 - p0| + |q0 - q3| below 4 and |p0 - q0| below 13, on lines 0 and 3
     P's side flag  dp0 + dp3 below 6; Q's likewise
     a weak line    |delta| below 50
+
+The first line ends in the counts of document 02's C-20, P's and Q's. Those of a skip and of a strong segment
+are always the same and are not written here; those of a weak one are, as in `weak 5 2 1`.
 """
 
 import sys
@@ -30,13 +33,22 @@ from stored import is_checking, run_oracle, store
 NAMES = ["p3", "p2", "p1", "p0", "q0", "q1", "q2", "q3"]
 
 
+COUNTS = {"skip": "0 0", "strong": "3 3"}
+
+
+def with_counts(first):
+    """A first line of `skip` or `strong` with its counts."""
+    words = first.split(" ")
+    return f"{first} {COUNTS[words[0]]}" if len(words) == 2 and words[0] in COUNTS else first
+
+
 class Case:
     """Bytes with a name, and the first line expected of the answer (or the first word alone)."""
 
     def __init__(self, name, data, *expect):
         self.name = name
         self.data = data
-        self.expect = expect
+        self.expect = [with_counts(first) for first in expect]
 
     def check(self, answer):
         first = answer[0]
@@ -91,6 +103,11 @@ def rough(d, place, base=100):
     return lines
 
 
+def rough_counts(place):
+    """The counts of such a segment where it is weak: the flag of the rough side is 0."""
+    return "1 2" if place < 2 else "2 1"
+
+
 def with_sample(number, sample):
     """Four flat lines in which one sample, counted 0 to 31 through the lines, differs."""
     samples = 32 * [100]
@@ -105,9 +122,9 @@ S1 = Segment("S1: q side 104", "strong 5", step(100, 104), gives=[100, 101, 101,
 
 def figures():
     yield Segment("S2: q side 112", "strong 5", step(100, 112), gives=[100, 102, 103, 105, 108, 109, 111, 112])
-    yield Segment("S3: q side 113", "weak 5", step(100, 113), gives=[100, 100, 102, 105, 108, 111, 113, 113])
-    yield Segment("S4: q side 231, delta 49", "weak 5", step(100, 231), gives=[100, 100, 102, 105, 226, 229, 231, 231])
-    yield Segment("S5: q side 232, delta 50", "weak 5", step(100, 232), gives=step(100, 232))
+    yield Segment("S3: q side 113", "weak 5 2 2", step(100, 113), gives=[100, 100, 102, 105, 108, 111, 113, 113])
+    yield Segment("S4: q side 231, delta 49", "weak 5 2 2", step(100, 231), gives=[100, 100, 102, 105, 226, 229, 231, 231])
+    yield Segment("S5: q side 232, delta 50", "weak 5 2 2", step(100, 232), gives=step(100, 232))
     yield Segment("S6: QP 15, beta 0 and tc 0", "skip 0", step(100, 104), qp=15, gives=step(100, 104))
     yield Segment("S7: QP -1 and -2 at depth 10", "skip 0", step(400, 408), depth=10, qp_p=-1, qp_q=-2,
                   gives=step(400, 408))
@@ -135,7 +152,7 @@ def tables():
     for qp in range(16, 52):
         beta, tc, place = BETA_TABLE[qp], TC_TABLE[qp + 2], qp % 4
         name = f"QP {qp}: BETA row {qp}, TC row {qp + 2}; {PLACES[place]} alone has d "
-        yield Segment(name + "= beta - 1", f"weak {tc}", *rough(beta - 1, place), qp=qp)
+        yield Segment(name + "= beta - 1", f"weak {tc} {rough_counts(place)}", *rough(beta - 1, place), qp=qp)
         yield Segment(name + "= beta", f"skip {tc}", *rough(beta, place), qp=qp)
     for qp in range(4, 16):
         yield Segment(f"QP {qp}, tc offset 6: BETA row {qp}, TC row {qp + 14}", f"skip {TC_TABLE[qp + 14]}",
@@ -143,7 +160,7 @@ def tables():
     for qp, index, tc in [(0, -12, 0), (11, -1, 1), (12, 0, 1), (13, 1, 2), (14, 2, 2), (15, 3, 2)]:
         yield Segment(f"BETA index {index}, tc offset 6", f"skip {tc}", step(100, 100), qp=qp, beta=-6, tc=6)
     for qp, index, tc in [(39, 51, 6), (40, 52, 7), (51, 63, 24)]:
-        yield Segment(f"BETA index {index}, d 63", f"weak {tc}", *rough(63, 1), qp=qp, beta=6)
+        yield Segment(f"BETA index {index}, d 63", f"weak {tc} {rough_counts(1)}", *rough(63, 1), qp=qp, beta=6)
         yield Segment(f"BETA index {index}, d 64", f"skip {tc}", *rough(64, 2), qp=qp, beta=6)
     for qp, bs, index in [(0, 1, -12), (9, 2, -1), (10, 2, 0), (11, 1, -1), (12, 1, 0)]:
         yield Segment(f"TC index {index}, bS {bs}, beta offset 6", "skip 0", step(100, 100), qp=qp, bs=bs, tc=-6,
@@ -161,7 +178,7 @@ def strengths():
     yield Segment("bS 0", "skip 0", step(100, 104), bs=0, gives=step(100, 104))
     yield Segment("bS 0, QP 51, offsets 6", "skip 0", step(100, 104), bs=0, qp=51, beta=6, tc=6, gives=step(100, 104))
     yield Segment("bS 1, step 9: below the limit of tc 4", "strong 4", step(100, 109), bs=1)
-    yield Segment("bS 1, step 10: at the limit of tc 4", "weak 4", step(100, 110), bs=1)
+    yield Segment("bS 1, step 10: at the limit of tc 4", "weak 4 2 2", step(100, 110), bs=1)
     yield Segment("bS 2, step 10", "strong 5", step(100, 110), bs=2)
     yield Segment("tc 0 by QP 15 though beta is 17", "skip 0", step(100, 104), qp=15, beta=6, gives=step(100, 104))
     yield Segment("skip by beta alone", "skip 5", *rough(150, 0), gives=rough(150, 0))
@@ -177,9 +194,11 @@ def depths():
         yield Segment(f"depth {depth}: step one below the limit", f"strong {tc}", step(base, base + limit - 1),
                       depth=depth)
         if depth in (9, 16):
-            yield Segment(f"depth {depth}: step at the limit", f"weak {tc}", step(base, base + limit), depth=depth)
-        for name, d, kind in [("d = beta - 1", 36 * scale - 1, "weak"), ("d = beta", 36 * scale, "skip")]:
-            yield Segment(f"depth {depth}: {name}", f"{kind} {tc}", *rough(d, depth % 4, base), depth=depth)
+            yield Segment(f"depth {depth}: step at the limit", f"weak {tc} 2 2", step(base, base + limit), depth=depth)
+        place = depth % 4
+        for name, d, first in [("d = beta - 1", 36 * scale - 1, f"weak {tc} {rough_counts(place)}"),
+                               ("d = beta", 36 * scale, f"skip {tc}")]:
+            yield Segment(f"depth {depth}: {name}", first, *rough(d, place, base), depth=depth)
 
 
 def lowest_qps():
@@ -254,16 +273,18 @@ def side_flags():
     """dp0 + dp3 and dq0 + dq3 at 5, where the flag is set, and at 6, where it is not. Lines 1 and 2 show
     what moves."""
     plain = step(100, 110)
-    for name, dp, dq, moved in [("both", (3, 2), (2, 3), "p1 p0 q0 q1"), ("P only", (2, 3), (3, 3), "p1 p0 q0"),
-                                ("Q only", (2, 4), (5, 0), "p0 q0 q1"), ("neither", (3, 3), (4, 2), "p0 q0")]:
-        yield Segment(f"side flags: {name}", "weak 5", bent(100, 110, dp[0], dq[0]), plain, plain,
+    for name, first, dp, dq, moved in [("both", "weak 5 2 2", (3, 2), (2, 3), "p1 p0 q0 q1"),
+                                       ("P only", "weak 5 2 1", (2, 3), (3, 3), "p1 p0 q0"),
+                                       ("Q only", "weak 5 1 2", (2, 4), (5, 0), "p0 q0 q1"),
+                                       ("neither", "weak 5 1 1", (3, 3), (4, 2), "p0 q0")]:
+        yield Segment(f"side flags: {name}", first, bent(100, 110, dp[0], dq[0]), plain, plain,
                       bent(100, 110, dp[1], dq[1]), moved=moved)
-    yield Segment("side flags: P's cleared by line 3 alone", "weak 5", plain, plain, plain, bent(100, 110, 6, 0),
+    yield Segment("side flags: P's cleared by line 3 alone", "weak 5 1 2", plain, plain, plain, bent(100, 110, 6, 0),
                   moved="p0 q0 q1")
-    yield Segment("side flags: Q's cleared by line 0 alone", "weak 5", bent(100, 110, 0, 6), plain, plain, plain,
+    yield Segment("side flags: Q's cleared by line 0 alone", "weak 5 2 1", bent(100, 110, 0, 6), plain, plain, plain,
                   moved="p1 p0 q0")
-    yield Segment("tc 1: half of it is 0, so p1 and q1 stay", "weak 1", step(100, 103), qp=18, bs=1, moved="p0 q0")
-    yield Segment("tc 3: half of it is 1", "weak 3", step(100, 108), qp=30,
+    yield Segment("tc 1: half of it is 0, so p1 and q1 stay", "weak 1 2 2", step(100, 103), qp=18, bs=1, moved="p0 q0")
+    yield Segment("tc 3: half of it is 1", "weak 3 2 2", step(100, 108), qp=30,
                   gives=[100, 100, 101, 103, 105, 107, 108, 108])
 
 
@@ -272,14 +293,14 @@ def lines_0_and_3():
     plain = step(100, 104)
     zigzag, gazgiz = [0, 255, 0, 255, 0, 255, 0, 255], [255, 0, 255, 0, 255, 0, 255, 0]
     yield Segment("d 36 from all four places", "skip 5", bent(100, 104, 9, 9), plain, plain, bent(100, 104, 9, 9))
-    yield Segment("d 35 from all four places", "weak 5", bent(100, 104, 9, 9), plain, plain, bent(100, 104, 9, 8))
+    yield Segment("d 35 from all four places", "weak 5 1 1", bent(100, 104, 9, 9), plain, plain, bent(100, 104, 9, 8))
     for name, one, other in [("2 * dpq = 10", bent(100, 104, 2, 3), bent(100, 104, -5, 0)),
                              ("|p3 - p0| + |q0 - q3| = 4", ends(100, 104, 2, -2), ends(100, 104, 2, 2)),
                              ("|p0 - q0| = 13", step(100, 113), step(113, 100))]:
-        yield Segment(f"weak by {name} on line 0 alone", "weak 5", one, plain, plain, plain)
-        yield Segment(f"weak by {name} on line 3 alone", "weak 5", plain, plain, plain, other)
+        yield Segment(f"weak by {name} on line 0 alone", "weak 5 2 2", one, plain, plain, plain)
+        yield Segment(f"weak by {name} on line 3 alone", "weak 5 2 2", plain, plain, plain, other)
         yield Segment(f"strong with {name} on lines 1 and 2", "strong 5", plain, one, other, plain)
-    yield Segment("QP 21, beta 11: weak by 2 * dpq = 11 >> 2", "weak 1", bent(100, 101, 1, 0), qp=21)
+    yield Segment("QP 21, beta 11: weak by 2 * dpq = 11 >> 2", "weak 1 1 2", bent(100, 101, 1, 0), qp=21)
     yield Segment("strong with 2 * dpq = 8", "strong 5", bent(100, 104, 2, 2), plain, plain, bent(100, 104, 0, 4))
     yield Segment("strong with |p3 - p0| + |q0 - q3| = 3", "strong 5", ends(100, 104, -2, 1), plain, plain,
                   ends(100, 104, 0, 3))
@@ -288,7 +309,7 @@ def lines_0_and_3():
                   plain, plain, [99, 102, 100, 100, 88, 88, 86, 90])
     yield Segment("strong, lines 1 and 2 wild: moves held to 2 * tc", "strong 5", plain, zigzag, gazgiz, plain,
                   moved="p2 p1 p0 q0 q1 q2")
-    yield Segment("weak, lines 1 and 2 wild: a delta for each line", "weak 5", step(100, 113), zigzag, step(200, 10),
+    yield Segment("weak, lines 1 and 2 wild: a delta for each line", "weak 5 2 2", step(100, 113), zigzag, step(200, 10),
                   step(100, 113))
     for name, first, last in [("lines 0 and 3", zigzag, gazgiz), ("line 0", zigzag, plain), ("line 3", plain, zigzag)]:
         yield Segment(f"skip by {name}", "skip 5", first, plain, plain, last, gives=[first, plain, plain, last])
@@ -303,9 +324,9 @@ def clipping():
         ramp = [0, 0, 0, 0, 0, 30 * scale, 60 * scale, 90 * scale]
         for sides, line, moved in [("p1 and p0", ramp, "q0 q1"), ("q0 and q1", ramp[::-1], "p1 p0")]:
             turned = [largest - sample for sample in line]
-            yield Segment(f"depth {depth}: weak, {sides} would fall below 0", f"weak {tc}", line, depth=depth,
+            yield Segment(f"depth {depth}: weak, {sides} would fall below 0", f"weak {tc} 2 2", line, depth=depth,
                           moved=moved)
-            yield Segment(f"depth {depth}: weak, {sides} would pass the largest", f"weak {tc}", turned, depth=depth,
+            yield Segment(f"depth {depth}: weak, {sides} would pass the largest", f"weak {tc} 2 2", turned, depth=depth,
                           moved=moved)
         for end, low, high in [("0", 0, 4 * scale), ("the largest", largest - 4 * scale, largest)]:
             yield Segment(f"depth {depth}: strong at {end}", f"strong {tc}", step(low, high), step(high, low),
@@ -314,25 +335,25 @@ def clipping():
 
 def deltas():
     """|delta| against 10 * tc, and shifts of negative numbers, which are floors."""
-    yield Segment("delta -49 = -784 >> 4", "weak 5", step(232, 100), moved="p1 p0 q0 q1")
-    yield Segment("delta -50 = -790 >> 4", "weak 5", step(233, 100), gives=step(233, 100))
-    yield Segment("delta 49, 50, -50, -49 on the four lines", "weak 5",
+    yield Segment("delta -49 = -784 >> 4", "weak 5 2 2", step(232, 100), moved="p1 p0 q0 q1")
+    yield Segment("delta -50 = -790 >> 4", "weak 5 2 2", step(233, 100), gives=step(233, 100))
+    yield Segment("delta 49, 50, -50, -49 on the four lines", "weak 5 2 2",
                   step(100, 231), step(100, 232), step(233, 100), step(232, 100),
                   gives=[[100, 100, 102, 105, 226, 229, 231, 231], step(100, 232), step(233, 100),
                          [232, 232, 230, 227, 105, 102, 100, 100]])
-    yield Segment("tc 1: delta 9", "weak 1", step(100, 125), qp=18, bs=1, moved="p0 q0")
-    yield Segment("tc 1: delta 10", "weak 1", step(100, 126), qp=18, bs=1, gives=step(100, 126))
-    yield Segment("depth 16: delta 12799", "weak 1280", step(1000, 35131), depth=16, moved="p1 p0 q0 q1")
-    yield Segment("depth 16: delta 12800", "weak 1280", step(1000, 35132), depth=16, gives=step(1000, 35132))
-    yield Segment("delta -1 = -4 >> 4; p1 moves by -1 >> 1", "weak 5", ends(100, 98, 10, 0),
+    yield Segment("tc 1: delta 9", "weak 1 2 2", step(100, 125), qp=18, bs=1, moved="p0 q0")
+    yield Segment("tc 1: delta 10", "weak 1 2 2", step(100, 126), qp=18, bs=1, gives=step(100, 126))
+    yield Segment("depth 16: delta 12799", "weak 1280 2 2", step(1000, 35131), depth=16, moved="p1 p0 q0 q1")
+    yield Segment("depth 16: delta 12800", "weak 1280 2 2", step(1000, 35132), depth=16, gives=step(1000, 35132))
+    yield Segment("delta -1 = -4 >> 4; p1 moves by -1 >> 1", "weak 5 2 2", ends(100, 98, 10, 0),
                   gives=[110, 100, 99, 99, 99, 98, 98, 98])
-    yield Segment("delta -1 = -1 >> 4", "weak 5", [100, 100, 100, 100, 101, 106, 111, 116],
+    yield Segment("delta -1 = -1 >> 4", "weak 5 2 2", [100, 100, 100, 100, 101, 106, 111, 116],
                   gives=[100, 100, 99, 99, 102, 106, 111, 116])
-    yield Segment("delta 1; q1 moves by -1 >> 1", "weak 5", ends(100, 102, 10, 0),
+    yield Segment("delta 1; q1 moves by -1 >> 1", "weak 5 2 2", ends(100, 102, 10, 0),
                   gives=[110, 100, 100, 101, 101, 101, 102, 102])
-    yield Segment("delta 0: nothing moves", "weak 5", ends(100, 101, 10, 0), gives=ends(100, 101, 10, 0))
+    yield Segment("delta 0: nothing moves", "weak 5 2 2", ends(100, 101, 10, 0), gives=ends(100, 101, 10, 0))
     far = ends(100, 100, 10, 0)
-    yield Segment("delta 0, p1 and q1 by 1 and 1, then by -5 >> 1 (held to -2) and -2 >> 1", "weak 5",
+    yield Segment("delta 0, p1 and q1 by 1 and 1, then by -5 >> 1 (held to -2) and -2 >> 1", "weak 5 2 2",
                   far, bent(100, 100, 4, 6), bent(100, 100, -10, -4), far,
                   gives=[far, [100, 104, 101, 100, 100, 101, 106, 100], [100, 90, 98, 100, 100, 99, 96, 100], far])
 
@@ -368,7 +389,7 @@ def main():
     cases = [case for group in GROUPS for case in group()]
     s1_data, s1_output, _ = run([S1])
     data, output, found = run(cases)
-    listing = "".join(f"{number:3}  {answer[0]:11}  {case.name}\n"
+    listing = "".join(f"{number:3}  {answer[0]:15}  {case.name}\n"
                       for number, (case, answer) in enumerate(zip(cases, found), 1))
     files = {"crates/segment_bench/stdin": s1_data, "crates/segment_bench/stdout": s1_output,
              "crates/bench_cases/stdin": data, "crates/bench_cases/stdout": output,

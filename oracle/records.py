@@ -148,12 +148,19 @@ def tally(found):
     return ", ".join(f"{kind}: {counts[kind]}" for kind in KINDS + sorted(set(counts) - set(KINDS)))
 
 
+def weak_tally(found):
+    """The weak segments by P's and Q's count."""
+    counts = Counter(" ".join(answer[0].split(" ")[2:]) for answer in found if kind_of(answer) == "weak")
+    return ", ".join(f"{pair}: {counts[pair]}" for pair in sorted(counts))
+
+
 def compare(input_path, expected_path, actual_path):
     paths = (input_path, expected_path, actual_path)
     data, expected, actual = (open(path, "rb").read() for path in paths)
     wanted = answers(expected.decode())
     assert len(wanted) == -(-len(data) // RECORD), "the oracle did not answer each record"
     print(f"{len(wanted)} records; {tally(wanted)}")
+    print(f"weak, by P's and Q's count: {weak_tally(wanted)}")
     if actual == expected:
         print("no difference")
         return 0

@@ -1,4 +1,4 @@
-"""The stored inputs and outputs of two revisions, by git: what outright.py and in_rule.py share."""
+"""The stored inputs and outputs of two revisions, by git: what outright.py, in_rule.py and counted.py share."""
 
 import subprocess
 import sys
@@ -38,19 +38,27 @@ def check_pictures(crate, before, after, become, says):
     print(f"{crate}: {len(old)} pictures, {changed} {says}; {len(said)} lines of output, the same")
 
 
-def beside(revision):
-    """The stored inputs and outputs of the other crates, and the shipped example."""
+def streams(revision):
+    """The stored inputs and outputs, and the shipped example."""
     names = git("ls-tree", "-r", "--name-only", revision, "crates/").decode().split()
+    return [*(name for name in names if name.endswith(("/stdin", "/stdout"))), "examples/example.pic"]
+
+
+def beside(revision):
+    """Those that are no pictures' records or lines."""
     own = tuple(f"crates/{crate}/" for crate in PICTURES)
-    streams = [name for name in names if name.endswith(("/stdin", "/stdout")) and not name.startswith(own)]
-    return [*streams, "examples/example.pic"]
+    return [name for name in streams(revision) if not name.startswith(own)]
+
+
+def two_revisions(usage):
+    if len(sys.argv) not in (2, 3):
+        sys.exit(usage)
+    return (sys.argv[1:] + ["HEAD"])[:2]
 
 
 def run(usage, become, says):
     """`become` has for each picture of BEFORE the one that it is to be, or None where it is to stay; `says` tells of those."""
-    if len(sys.argv) not in (2, 3):
-        sys.exit(usage)
-    before, after = (sys.argv[1:] + ["HEAD"])[:2]
+    before, after = two_revisions(usage)
     for crate in PICTURES:
         check_pictures(crate, before, after, become, says)
     for name in beside(before):

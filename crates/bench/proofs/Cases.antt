@@ -8,13 +8,13 @@ use lib.ListN.{take}
 use Rattle.ints.specs.Int.{_⊖_, _⊞_, _⊟_, neg, _⊠_, lt, _>>_, clip3, abs, natOf}
 use Rattle.thresholds.specs.Tables.{BETA, TC}
 use Rattle.thresholds.specs.Luma.{averageQp, betaIndex, tcIndex, scaled, lumaBeta, lumaTc}
-use Rattle.lines.specs.Decision.{activity, dSam, decision}
+use Rattle.lines.specs.Decision.{activity, dSam, decision, sideCount}
 use Rattle.lines.specs.Luma.{near, strongLine, lumaLine}
 use Rattle.text.specs.Text.{decimalIn, decimal}
 use Rattle.bench_record.specs.Record.{sampleAt, lineOfRecord}
 use Rattle.bench_record.specs.Refusal.{othersBad, sideAbove, lineAbove, samplesAbove, refusalOf}
 use Rattle.bench.specs.Bench.{recordQp, recordBeta, recordTc, printedTc, recordDecision}
-use Rattle.bench_lines.specs.Lines.{wordText, firstText, fourText, lineText, linesText, refusedText}
+use Rattle.bench_lines.specs.Lines.{wordText, countsText, firstText, fourText, lineText, linesText, refusedText}
 use Rattle.bench.specs.Bench.{segmentText, shortText, recordText, benchText}
 
 -- depth 8, bS 2, both QP 37, offsets 0
@@ -29,9 +29,9 @@ s1Line = 100 ∷ 0 ∷ 100 ∷ 0 ∷ 100 ∷ 0 ∷ 100 ∷ 0 ∷ 104 ∷ 0 ∷ 1
 abbrev roughLine : List ℕ
 roughLine = 100 ∷ 0 ∷ 100 ∷ 0 ∷ 110 ∷ 0 ∷ 100 ∷ 0 ∷ 104 ∷ 0 ∷ 104 ∷ 0 ∷ 104 ∷ 0 ∷ 104 ∷ 0 ∷ []
 
--- `strong 5`
+-- `strong 5 3 3`
 abbrev strongText : List ℕ
-strongText = 115 ∷ 116 ∷ 114 ∷ 111 ∷ 110 ∷ 103 ∷ 32 ∷ 53 ∷ 10 ∷ []
+strongText = 115 ∷ 116 ∷ 114 ∷ 111 ∷ 110 ∷ 103 ∷ 32 ∷ 53 ∷ 32 ∷ 51 ∷ 32 ∷ 51 ∷ 10 ∷ []
 
 -- `100 101 101 102 103 103 104 104`
 abbrev s1Text : List ℕ
@@ -54,9 +54,9 @@ pub prints :
     (benchText (parts s1Head s1Line s1Line) ≡ parts strongText s1Text s1Text)
     × (benchText (parts s1Head s1Line roughLine) ≡ parts strongText s1Text roughText)
 unfolding benchText recordText refusalOf othersBad samplesAbove lineAbove sideAbove sampleAt lineOfRecord
-    segmentText firstText wordText printedTc recordTc recordBeta recordQp recordDecision
+    segmentText firstText countsText wordText printedTc recordTc recordBeta recordQp recordDecision
     linesText lineText fourText decimal decimalIn
-    averageQp betaIndex tcIndex scaled lumaBeta lumaTc BETA TC activity dSam decision lumaLine strongLine near
+    averageQp betaIndex tcIndex scaled lumaBeta lumaTc BETA TC activity dSam decision sideCount lumaLine strongLine near
     _⊖_ _⊞_ _⊟_ neg _⊠_ lt _>>_ clip3 abs natOf
 prints = (refl, refl)
 

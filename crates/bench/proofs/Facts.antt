@@ -12,8 +12,8 @@ use Rattle.ints.specs.Int.{_⊖_}
 use Rattle.ints.specs.Sample.{largestAt}
 use Rattle.thresholds.specs.Luma.{averageQp, lumaBeta}
 use Rattle.lines.specs.declared.Line.{Line}
-use Rattle.lines.specs.declared.LumaDecision.{LumaDecision}
-use Rattle.lines.specs.Answer.{valuesOf, caseOf}
+use Rattle.lines.specs.declared.LumaAnswer.{LumaAnswer}
+use Rattle.lines.specs.Answer.{valuesOf, caseOf, answerOf}
 use Rattle.lines.specs.Decision.{Decision, decision}
 use Rattle.lines.specs.Luma.{lumaLine}
 use Rattle.lines.proofs.Answer.{case-filters, case-keeps, decision-known}
@@ -78,15 +78,15 @@ filtered-is h k m largest l =
 -- ---- the text of a segment, of what the calls gave
 
 -- a line as the code filters it
-abbrev coded : LumaDecision → Thresholds → Line → Line
-coded d t l = lumaLine (valuesOf d) (t .largest) (t .tc) l
+abbrev coded : LumaAnswer → Thresholds → Line → Line
+coded d t l = lumaLine (valuesOf (d .decision)) (t .largest) (t .tc) l
 
-pub segment-made : (r : List ℕ) {h : Head} {t : Thresholds} {l0 l1 l2 l3 f0 f1 f2 f3 : Line} {d : LumaDecision}
+pub segment-made : (r : List ℕ) {h : Head} {t : Thresholds} {l0 l1 l2 l3 f0 f1 f2 f3 : Line} {d : LumaAnswer}
     → h ≡ headOf r → t ≡ thresholdsOf h
     → l0 ≡ lineOfRecord r 0 → l1 ≡ lineOfRecord r 1 → l2 ≡ lineOfRecord r 2 → l3 ≡ lineOfRecord r 3
-    → d ≡ caseOf (decisionOrSkip (t .beta) (t .tc) l0 l3)
+    → d ≡ answerOf (decisionOrSkip (t .beta) (t .tc) l0 l3)
     → f0 ≡ coded d t l0 → f1 ≡ coded d t l1 → f2 ≡ coded d t l2 → f3 ≡ coded d t l3
-    → firstText (valuesOf d .dE) (t .tc) ++ linesText f0 f1 f2 f3 ≡ segmentText r
+    → firstText (valuesOf (d .decision) .dE) (t .tc) (d .counts) ++ linesText f0 f1 f2 f3 ≡ segmentText r
 unfolding segmentText
 segment-made r eh et e0 e1 e2 e3 ed g0 g1 g2 g3 =
     let h : Head = headOf r in

@@ -1,5 +1,5 @@
--- Document 01, 'Segment bench': what the program prints for the bytes of one record. Each definition has the sentence
--- that it is written from.
+-- Document 01, 'Segment bench', and document 02, C-20: what the program prints for the bytes of one record. Each
+-- definition has the sentence that it is written from.
 use Prim.Native.Nat.{ℕ}
 use mathlib.Core.Bool.{false, cond, _||_}
 use mathlib.Core.List.{List, [], _∷_, _++_}
@@ -10,7 +10,7 @@ use Rattle.ints.specs.Int.{_⊖_}
 use Rattle.ints.specs.Sample.{largestAt}
 use Rattle.thresholds.specs.Luma.{averageQp, lumaBeta, lumaTc}
 use Rattle.lines.specs.declared.Line.{Line}
-use Rattle.lines.specs.Decision.{Decision, decision}
+use Rattle.lines.specs.Decision.{Decision, decision, countsOf}
 use Rattle.lines.specs.Luma.{lumaLine}
 use Rattle.bench_record.specs.declared.fields.Head.{Head}
 use Rattle.bench_record.specs.Record.{headOf, lineOfRecord}
@@ -46,13 +46,13 @@ recordDecision h l0 l3 =
 -- ---- the text
 
 -- "a first line with `skip`, `strong` or `weak` and the scaled tc (`skip 0` when bS or tc is 0), then the four lines
--- after filtering"
+-- after filtering"; C-20: "both counts after tc", of the same decision
 unfoldable pub segmentText : List ℕ → List ℕ
 segmentText r =
     let h : Head = headOf r in
     let d : Decision = recordDecision h (lineOfRecord r 0) (lineOfRecord r 3) in
     let filtered : ℕ → Line = λ j. lumaLine d (largestAt (h .depth)) (recordTc h) (lineOfRecord r j) in
-    firstText (d .dE) (printedTc h) ++ linesText (filtered 0) (filtered 1) (filtered 2) (filtered 3)
+    firstText (d .dE) (printedTc h) (countsOf d) ++ linesText (filtered 0) (filtered 1) (filtered 2) (filtered 3)
 
 -- `short`
 abbrev pub shortText : List ℕ

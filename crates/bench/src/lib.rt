@@ -7,7 +7,7 @@ ghost use Rattle.text.specs.Text.{Puts};
 ghost use Rattle.bench.specs.Bench.{benchText, recordText};
 use segment::put_segment;
 
-// Puts the text of a record at the start of `out`, and answers its length; the longest has 13 + 4 * 48 bytes.
+// Puts the text of a record at the start of `out`, and answers its length; none is longer than 25 + 4 * 48 bytes.
 // The input is what was left to read. Where that is more than a record, the first one counts.
 pub fn bench_text(input: &[u8], out: &mut [u8; 256]) -> usize
     ensures { λ r. ⌜ Puts out 0 (benchText (now (input .entry))) r ⌝ }

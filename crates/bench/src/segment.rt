@@ -3,7 +3,7 @@ ghost use mathlib.Core.Path.{_≡_};
 ghost use Prim.Native.Nat.{_≤_};
 ghost use lib.ListN.{length};
 ghost use Rattle.text.specs.Text.{Puts};
-ghost use Rattle.lines.specs.Answer.{valuesOf, caseOf};
+ghost use Rattle.lines.specs.Answer.{valuesOf, answerOf};
 ghost use Rattle.lines.specs.Luma.{lumaLine};
 ghost use Rattle.bench_record.specs.Refusal.{refusalOf};
 ghost use Rattle.bench.specs.Bench.{segmentText};
@@ -13,6 +13,7 @@ use bench_lines::put_lines;
 use bench_record::Head;
 use bench_record::line_of_record;
 use lines::Line;
+use lines::LumaAnswer;
 use lines::LumaDecision;
 
 // What the four lines of a segment are decided and filtered by; `largest` is the depth's largest sample.
@@ -47,12 +48,12 @@ fn thresholds_of(h: Head) -> Thresholds
     }
 }
 
-// One decision for the whole segment, by its lines 0 and 3.
-fn decide(t: Thresholds, l0: Line, l3: Line) -> LumaDecision
-    ensures { λ r. ⌜ r ≡ caseOf (decisionOrSkip (t .beta) (t .tc) l0 l3) ⌝ }
+// One decision for the whole segment, by its lines 0 and 3, and its counts.
+fn decide(t: Thresholds, l0: Line, l3: Line) -> LumaAnswer
+    ensures { λ r. ⌜ r ≡ answerOf (decisionOrSkip (t .beta) (t .tc) l0 l3) ⌝ }
 {
     if t.tc == 0 {
-        LumaDecision::Skip
+        lines::with_counts(LumaDecision::Skip)
     } else {
         lines::luma_decision(t.beta, t.tc, l0, l3)
     }
@@ -76,13 +77,14 @@ pub(crate) fn put_segment(input: &[u8], out: &mut [u8]) -> usize
     let l2 = line_of_record(input, 2);
     let l3 = line_of_record(input, 3);
     let d = decide(t, l0, l3);
+    let decision = d.decision;
     let next = put_first(out, 0, d, t.tc);
     put_lines(
         out,
         next,
-        filtered(d, t, l0),
-        filtered(d, t, l1),
-        filtered(d, t, l2),
-        filtered(d, t, l3),
+        filtered(decision, t, l0),
+        filtered(decision, t, l1),
+        filtered(decision, t, l2),
+        filtered(decision, t, l3),
     )
 }

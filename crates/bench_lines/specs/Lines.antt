@@ -1,10 +1,11 @@
--- Document 01, 'Segment bench': the lines of text that a record prints, as bytes. Each definition has the sentence
--- that it is written from.
+-- Document 01, 'Segment bench', and document 02, C-20: the lines of text that a record prints, as bytes. Each
+-- definition has the sentence that it is written from.
 use Prim.Native.Nat.{ℕ}
 use mathlib.Core.Bool.{cond}
 use mathlib.Core.List.{List, [], _∷_, _++_}
 use lib.Dec.{eqb}
 use Rattle.lines.specs.declared.Line.{Line}
+use Rattle.lines.specs.declared.SideCounts.{SideCounts}
 use Rattle.text.specs.Text.{decimal}
 
 -- "`skip`, `strong` or `weak`", by dE 0, 2 or 1, and a space
@@ -14,9 +15,14 @@ wordText dE =
     (cond (eqb dE 2) (115 ∷ 116 ∷ 114 ∷ 111 ∷ 110 ∷ 103 ∷ 32 ∷ [])
     (119 ∷ 101 ∷ 97 ∷ 107 ∷ 32 ∷ []))
 
--- "a first line with `skip`, `strong` or `weak` and the scaled tc"
-unfoldable pub firstText : ℕ → ℕ → List ℕ
-firstText dE tc = wordText dE ++ (decimal tc ++ (10 ∷ []))
+-- C-20: "both counts after tc", P's and then Q's
+unfoldable pub countsText : ℕ → SideCounts → List ℕ
+countsText tc c = decimal tc ++ (32 ∷ decimal (c .p) ++ (32 ∷ decimal (c .q) ++ (10 ∷ [])))
+
+-- "a first line with `skip`, `strong` or `weak` and the scaled tc"; C-20: "The bench prints both counts after tc on its
+-- first line"
+unfoldable pub firstText : ℕ → ℕ → SideCounts → List ℕ
+firstText dE tc c = wordText dE ++ countsText tc c
 
 -- four numbers, "split by one space", and the byte `last` after them
 unfoldable pub fourText : ℕ → ℕ → ℕ → ℕ → ℕ → List ℕ

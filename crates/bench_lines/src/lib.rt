@@ -4,9 +4,11 @@ ghost use Prim.Native.Nat.{_+_, _≤_};
 ghost use lib.ListN.{length};
 ghost use Rattle.text.specs.Text.{Puts};
 ghost use Rattle.lines.specs.Answer.{valuesOf};
-ghost use Rattle.bench_lines.specs.Lines.{wordText, firstText, fourText, lineText, linesText, refusedText};
+ghost use Rattle.bench_lines.specs.Lines.{wordText, countsText, firstText, fourText, lineText, linesText, refusedText};
 use lines::Line;
+use lines::LumaAnswer;
 use lines::LumaDecision;
+use lines::SideCounts;
 use text::put_bytes;
 use text::put_number_then;
 
@@ -22,14 +24,29 @@ fn put_word(out: &mut [u8], at: usize, d: LumaDecision) -> usize
     }
 }
 
-// The decision and tc.
-pub fn put_first(out: &mut [u8], at: usize, d: LumaDecision, tc: u16) -> usize
-    requires { ⌜ at + 13 ≤ length (now out) ⌝ }
-    ensures { λ r. ⌜ Puts out at (firstText (valuesOf d .dE) tc) r ⌝ }
-    ensures { λ r. ⌜ r ≤ at + 13 ⌝ }
+// tc and both counts, to the end of the line.
+fn put_counts(out: &mut [u8], at: usize, tc: u16, c: SideCounts) -> usize
+    requires { ⌜ at + 18 ≤ length (now out) ⌝ }
+    ensures { λ r. ⌜ Puts out at (countsText tc c) r ⌝ }
+    ensures { λ r. ⌜ r ≤ at + 18 ⌝ }
 {
-    let next = put_word(out, at, d);
-    put_number_then(out, next, tc, 10)
+    let p = c.p as u16;
+    let q = c.q as u16;
+    let second = put_number_then(out, at, tc, 32);
+    let third = put_number_then(out, second, p, 32);
+    put_number_then(out, third, q, 10)
+}
+
+// The decision, tc and both counts.
+pub fn put_first(out: &mut [u8], at: usize, d: LumaAnswer, tc: u16) -> usize
+    requires { ⌜ at + 25 ≤ length (now out) ⌝ }
+    ensures { λ r. ⌜ Puts out at (firstText (valuesOf (d .decision) .dE) tc (d .counts)) r ⌝ }
+    ensures { λ r. ⌜ r ≤ at + 25 ⌝ }
+{
+    let decision = d.decision;
+    let counts = d.counts;
+    let next = put_word(out, at, decision);
+    put_counts(out, next, tc, counts)
 }
 
 fn put_four(out: &mut [u8], at: usize, a: u16, b: u16, c: u16, d: u16, last: u8) -> usize

@@ -1,6 +1,7 @@
 pub mod Alike
 pub mod AllBands
 pub mod AllPlaces
+pub mod Counted
 pub mod Ends
 pub mod Example
 pub mod Figures

@@ -1,4 +1,5 @@
--- Document 01, 'Figures to check': the starred cases as one list, and what it is that the definitions give a figure.
+-- Document 01, 'Figures to check': the starred cases as one list, and what it is that the definitions give a figure;
+-- of document 02, C-20's counts, P's and Q's, of the segments.
 use Prim.Native.Nat.{ℕ}
 use mathlib.Core.Path.{_≡_}
 use mathlib.Core.Bool.{true}
@@ -9,7 +10,7 @@ use Rattle.lines.specs.declared.ChromaLine.{ChromaLine}
 use Rattle.lines.specs.declared.Line.{Line}
 use Rattle.lines.specs.declared.LumaDecision.{LumaDecision}
 use Rattle.lines.specs.declared.LumaDecision.the-variants.{Strong, Weak}
-use Rattle.lines.specs.Answer.{caseOf}
+use Rattle.lines.specs.Answer.{answerOf}
 use Rattle.lines.specs.Chroma.{chromaLine}
 use Rattle.lines.specs.Decision.{decision}
 use Rattle.lines.specs.Luma.{lumaLine}
@@ -36,8 +37,8 @@ step q = lumaSamples 100 100 100 100 q q q q
 pub data Figure : Type 0 where
   -- β and tC of the segments
   thresholds : ℕ → ℕ → Figure
-  -- a segment's q side, its decision, and each of its lines after filtering
-  segment : ℕ → LumaDecision → Line → Figure
+  -- a segment's q side, its decision, P's and Q's count, and each of its lines after filtering
+  segment : ℕ → LumaDecision → ℕ → ℕ → Line → Figure
   -- two QPs and their average
   average : ℤ → ℤ → ℤ → Figure
   -- chroma format, index, chroma QP
@@ -50,8 +51,9 @@ pub data Figure : Type 0 where
 -- the definitions give the figure
 abbrev pub Given : Figure → Type 0
 Given (thresholds β tc) = (segmentBeta ≡ β) × (segmentTc ≡ tc)
-Given (segment q d out) =
-    (caseOf (decision segmentBeta segmentTc (step q) (step q)) ≡ d)
+Given (segment q d countP countQ out) =
+    (answerOf (decision segmentBeta segmentTc (step q) (step q))
+    ≡ record { decision = d; counts = record { p = countP; q = countQ } })
     × (lumaLine (decision segmentBeta segmentTc (step q) (step q)) 255 segmentTc (step q) ≡ out)
 Given (average p q a) = averageQp p q ≡ a
 Given (chromaQps format i qp) = chromaQp format i ≡ qp
@@ -67,11 +69,11 @@ abbrev pub figures : List Figure
 figures =
     thresholds 36 5
     -- S1: q side 104; S2: 112; S3: 113 is weak; S4: 231; S5: 232 is unchanged
-    ∷ segment 104 Strong (lumaSamples 100 101 101 102 103 103 104 104)
-    ∷ segment 112 Strong (lumaSamples 100 102 103 105 108 109 111 112)
-    ∷ segment 113 (Weak true true) (lumaSamples 100 100 102 105 108 111 113 113)
-    ∷ segment 231 (Weak true true) (lumaSamples 100 100 102 105 226 229 231 231)
-    ∷ segment 232 (Weak true true) (step 232)
+    ∷ segment 104 Strong 3 3 (lumaSamples 100 101 101 102 103 103 104 104)
+    ∷ segment 112 Strong 3 3 (lumaSamples 100 102 103 105 108 109 111 112)
+    ∷ segment 113 (Weak true true) 2 2 (lumaSamples 100 100 102 105 108 111 113 113)
+    ∷ segment 231 (Weak true true) 2 2 (lumaSamples 100 100 102 105 226 229 231 231)
+    ∷ segment 232 (Weak true true) 2 2 (step 232)
     -- S7: QP -1 and -2 average to -1; and -1 and -1, where the floor and rounding to zero part
     ∷ average (negsuc 0) (negsuc 1) (negsuc 0)
     ∷ average (negsuc 0) (negsuc 0) (negsuc 0)

@@ -1,14 +1,15 @@
 -- The enum LumaDecision loses nothing that the filter reads: filtering by a decision's case is filtering by the
--- decision.
+-- decision. Nor do its counts.
 use Prim.Native.Nat.{ℕ, zero, suc, _+_, _*_, _/_, _^_, _≤_}
-use mathlib.Core.Path.{_≡_, refl}
+use mathlib.Core.Path.{_≡_, refl, ap, _∙_}
 use mathlib.Core.Bool.{Bool, true, false, cond, _&&_}
 use native.Mathlib.Omega.{arith}
 use lib.Dec.{ltb}
 use Rattle.lines.specs.declared.Line.{Line}
-use Rattle.lines.specs.declared.LumaDecision.the-variants.{Skip}
-use Rattle.lines.specs.Answer.{valuesOf, caseOf}
-use Rattle.lines.specs.Decision.{Decision, dpOf, dqOf, dSam, decision}
+use Rattle.lines.specs.declared.LumaDecision.{LumaDecision}
+use Rattle.lines.specs.declared.LumaDecision.the-variants.{Skip, Strong, Weak}
+use Rattle.lines.specs.Answer.{valuesOf, caseOf, answerOf}
+use Rattle.lines.specs.Decision.{Decision, dpOf, dqOf, dSam, decision, sideCount}
 use Rattle.lines.specs.Luma.{lumaLine}
 
 -- each decision with dE 0, 1 or 2
@@ -40,6 +41,19 @@ pub case-keeps : (d : Decision) → d .dE ≤ 2 → valuesOf (caseOf d) .dE ≡ 
 unfolding caseOf
 case-keeps = by-case (λ e. valuesOf (caseOf e) .dE ≡ e .dE) (λ p q. refl) (λ p q. refl) (λ p q. refl)
 
+-- a case is the case of its own values
+pub case-of-values : (c : LumaDecision) → caseOf (valuesOf c) ≡ c
+unfolding caseOf
+case-of-values Skip = refl
+case-of-values Strong = refl
+case-of-values (Weak p q) = refl
+
+-- the answer on a decision's case is the answer on the decision
+case-answers : (d : Decision) → d .dE ≤ 2 → answerOf (valuesOf (caseOf d)) ≡ answerOf d
+unfolding caseOf sideCount
+case-answers =
+    by-case (λ (e : Decision). answerOf (valuesOf (caseOf e)) ≡ answerOf e) (λ p q. refl) (λ p q. refl) (λ p q. refl)
+
 known : (t s p q : Bool) → (cond t (record { dE = cond s 2 1; dEp = p; dEq = q }) (valuesOf Skip)) .dE ≤ 2
 known true true p q = omega arith
 known true false p q = omega arith
@@ -53,3 +67,9 @@ decision-known β tc l0 l3 =
     (dSam β tc (2 * (dpOf l0 + dqOf l0)) l0 && dSam β tc (2 * (dpOf l3 + dqOf l3)) l3)
     (ltb (dpOf l0 + dpOf l3) ((β + β / 2 ^ 1) / 2 ^ 3))
     (ltb (dqOf l0 + dqOf l3) ((β + β / 2 ^ 1) / 2 ^ 3))
+
+pub decision-answered : (β tc : ℕ) (l0 l3 : Line) {c : LumaDecision} → c ≡ caseOf (decision β tc l0 l3)
+    → answerOf (valuesOf c) ≡ answerOf (decision β tc l0 l3)
+decision-answered β tc l0 l3 e =
+    ap (λ (k : LumaDecision). answerOf (valuesOf k)) e
+    ∙ case-answers (decision β tc l0 l3) (decision-known β tc l0 l3)

@@ -1,4 +1,5 @@
 pub mod Answer
+pub mod Counted
 pub mod Decided
 pub mod Filtered
 pub mod Numbers

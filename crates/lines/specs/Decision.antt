@@ -1,11 +1,12 @@
 -- ITU-T H.265 clauses 8.7.2.5.3 and 8.7.2.5.6 at a general depth: the decision for a luma segment of four lines, from
--- its lines 0 and 3.
+-- its lines 0 and 3; and how many samples of each side it may change.
 use Prim.Native.Nat.{ℕ, _+_, _*_, _/_, _^_}
 use mathlib.Core.Bool.{Bool, false, cond, _&&_}
-use lib.Dec.{ltb}
+use lib.Dec.{ltb, eqb}
 use lib.IntN.{ℤ, pos}
 use Rattle.ints.specs.Int.{_⊞_, _⊟_, _⊠_, abs}
 use Rattle.lines.specs.declared.Line.{Line}
+use Rattle.lines.specs.declared.SideCounts.{SideCounts}
 
 -- Abs(x2 - 2 * x1 + x0), of one side of one line
 unfoldable pub activity : ℤ → ℤ → ℤ → ℕ
@@ -51,3 +52,15 @@ decision β tc l0 l3 =
       dEq = ltb dq ((β + β / 2 ^ 1) / 2 ^ 3);
     })
     (record { dE = 0; dEp = false; dEq = false })
+
+-- ---- document 02, C-20: "for P and for Q, how many samples next to the edge it may change"
+
+-- one side's count, by dE and that side's flag: "0 for skip, 3 for strong, 1 or 2 for weak by its side flag". To a line
+-- that is filtered 8.7.2.5.7 gives the same numbers as nDp and nDq; that a line is too rough for the weak filter, or a
+-- side suppressed, where those are 0, is not known to the decision.
+unfoldable pub sideCount : ℕ → Bool → ℕ
+sideCount dE flag = cond (eqb dE 0) 0 (cond (eqb dE 2) 3 (cond flag 2 1))
+
+-- the pair, of P and of Q
+abbrev pub countsOf : Decision → SideCounts
+countsOf d = record { p = sideCount (d .dE) (d .dEp); q = sideCount (d .dE) (d .dEq) }

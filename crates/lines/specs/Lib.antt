@@ -2,4 +2,5 @@ pub mod Decision
 pub mod Luma
 pub mod Chroma
 pub mod Answer
+pub mod Counted
 pub mod Code

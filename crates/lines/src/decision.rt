@@ -1,9 +1,11 @@
 // 8.7.2.5.3 and 8.7.2.5.6: how a luma segment is filtered.
 use crate::Line;
+use crate::LumaAnswer;
 use crate::LumaDecision;
+use crate::counts::with_counts;
 ghost use mathlib.Core.Path.{_≡_};
 ghost use Prim.Native.Nat.{_+_, _*_, _<_};
-ghost use Rattle.lines.specs.Answer.{caseOf};
+ghost use Rattle.lines.specs.Answer.{answerOf};
 ghost use Rattle.lines.specs.Code.{absDiffN, dSamN};
 ghost use Rattle.lines.specs.Decision.{decision};
 
@@ -31,8 +33,8 @@ fn d_sam(beta: u32, tc: u16, dpq: u32, p3: u16, p0: u16, q0: u16, q3: u16) -> bo
 }
 
 // 8.7.2.5.3, in its order and by its names: the decision for a segment by its lines 0 and 3; it holds for all four.
-pub fn luma_decision(beta: u16, tc: u16, l0: Line, l3: Line) -> LumaDecision
-    ensures { λ r. ⌜ r ≡ caseOf (decision beta tc l0 l3) ⌝ }
+pub fn luma_decision(beta: u16, tc: u16, l0: Line, l3: Line) -> LumaAnswer
+    ensures { λ r. ⌜ r ≡ answerOf (decision beta tc l0 l3) ⌝ }
 {
     let beta = beta as u32;
     let dp0 = side_activity(l0.p2, l0.p1, l0.p0);
@@ -46,7 +48,7 @@ pub fn luma_decision(beta: u16, tc: u16, l0: Line, l3: Line) -> LumaDecision
     let d = dpq0 + dpq3;
     // dE is 0
     if d >= beta {
-        return LumaDecision::Skip;
+        return with_counts(LumaDecision::Skip);
     }
     let d_sam0 = d_sam(beta, tc, 2 * dpq0, l0.p3, l0.p0, l0.q0, l0.q3);
     // where dSam0 is 0, dSam3 decides nothing
@@ -54,14 +56,14 @@ pub fn luma_decision(beta: u16, tc: u16, l0: Line, l3: Line) -> LumaDecision
         let d_sam3 = d_sam(beta, tc, 2 * dpq3, l3.p3, l3.p0, l3.q0, l3.q3);
         // dE is 2, whose filter reads no side flag
         if d_sam3 {
-            return LumaDecision::Strong;
+            return with_counts(LumaDecision::Strong);
         }
     }
     // dE is 1
     let d_ep = dp < (beta + (beta >> 1)) >> 3;
     let d_eq = dq < (beta + (beta >> 1)) >> 3;
-    LumaDecision::Weak {
+    with_counts(LumaDecision::Weak {
         do_p1: d_ep,
         do_q1: d_eq,
-    }
+    })
 }

@@ -3,6 +3,7 @@
 // What a public function ensures is the standard's definition, over the integers. What a private one ensures is an
 // expression of naturals, which the prover checks by itself; the proofs of the public ones carry the one to the other.
 mod chroma;
+mod counts;
 mod decision;
 mod delta;
 mod limits;
@@ -10,6 +11,7 @@ mod strong;
 mod weak;
 
 pub use chroma::chroma_line;
+pub use counts::with_counts;
 pub use decision::luma_decision;
 ghost use mathlib.Core.Path.{_≡_};
 ghost use Rattle.lines.specs.Answer.{valuesOf};
@@ -34,6 +36,18 @@ pub enum LumaDecision {
     Skip,
     Strong,
     Weak { do_p1: bool, do_q1: bool },
+}
+
+// How many samples next to the edge a decision may change, on the P side and on the Q side.
+pub struct SideCounts {
+    pub p: u8,
+    pub q: u8,
+}
+
+// What is answered of a luma segment: its decision, and what that may change.
+pub struct LumaAnswer {
+    pub decision: LumaDecision,
+    pub counts: SideCounts,
 }
 
 // The four samples around a chroma edge.

@@ -1,8 +1,9 @@
-// The luma filter on a window, which answers the decision that it took. The decision is made once, from lines 0 and
-// 3, before anything is written, and holds for all four lines.
+// The luma filter on a window, which answers the decision that it took and its counts. The decision is made once, from
+// lines 0 and 3, before anything is written, and holds for all four lines.
 use crate::rows::filter_rows;
 use crate::turned::filter_turned;
 use filter::LumaFilter;
+use lines::LumaAnswer;
 use lines::LumaDecision;
 use lines::luma_decision;
 use window_lines::take_line;
@@ -13,11 +14,11 @@ ghost use Rattle.filter.specs.Answer.{lumaOf};
 ghost use Rattle.filter.specs.Kernel.{kernel};
 ghost use Rattle.picture.specs.Lent.{given, left};
 ghost use Rattle.planes.specs.Window.{Filtered, Strides, windowAt};
-ghost use Rattle.luma_windows.specs.Decided.{decisionAt};
+ghost use Rattle.luma_windows.specs.Decided.{answerAt};
 
-fn decide(s: &[u16], base: usize, across: usize, along: usize, t: LumaFilter) -> LumaDecision
+fn decide(s: &[u16], base: usize, across: usize, along: usize, t: LumaFilter) -> LumaAnswer
     requires { ⌜ base + 3 * along + 7 * across < length (now s) ⌝ }
-    ensures { λ r. ⌜ r ≡ decisionAt t (windowAt (given s) base across along) ⌝ }
+    ensures { λ r. ⌜ r ≡ answerAt t (windowAt (given s) base across along) ⌝ }
 {
     let l0 = take_line(s, base, across);
     let l3 = take_line(s, base + 3 * along, across);
@@ -25,28 +26,30 @@ fn decide(s: &[u16], base: usize, across: usize, along: usize, t: LumaFilter) ->
 }
 
 // At a horizontal edge; `across` is the stride across it.
-pub fn horizontal_luma(s: &mut [u16], base: usize, across: usize, t: LumaFilter) -> LumaDecision
+pub fn horizontal_luma(s: &mut [u16], base: usize, across: usize, t: LumaFilter) -> LumaAnswer
     requires { ⌜ base + 3 + 7 * across < length (now s) ⌝ }
     requires { ⌜ Strides across 1 ⌝ }
     ensures { λ _. ⌜ Filtered 4 (kernel (lumaOf t)) base across 1 (given s) (left s) ⌝ }
-    ensures { λ r. ⌜ r ≡ decisionAt t (windowAt (given s) base across 1) ⌝ }
+    ensures { λ r. ⌜ r ≡ answerAt t (windowAt (given s) base across 1) ⌝ }
 {
     let d = decide(s, base, across, 1, t);
-    filter_rows(s, base, across, d, t);
+    let decision = d.decision;
+    filter_rows(s, base, across, decision, t);
     d
 }
 
 // At a vertical edge; `along` is the stride along it. Lines that are left alone are not turned.
-pub fn vertical_luma(s: &mut [u16], base: usize, along: usize, t: LumaFilter) -> LumaDecision
+pub fn vertical_luma(s: &mut [u16], base: usize, along: usize, t: LumaFilter) -> LumaAnswer
     requires { ⌜ base + 3 * along + 7 < length (now s) ⌝ }
     requires { ⌜ Strides 1 along ⌝ }
     ensures { λ _. ⌜ Filtered 4 (kernel (lumaOf t)) base 1 along (given s) (left s) ⌝ }
-    ensures { λ r. ⌜ r ≡ decisionAt t (windowAt (given s) base 1 along) ⌝ }
+    ensures { λ r. ⌜ r ≡ answerAt t (windowAt (given s) base 1 along) ⌝ }
 {
     let d = decide(s, base, 1, along, t);
-    if let LumaDecision::Skip = d {
+    let decision = d.decision;
+    if let LumaDecision::Skip = decision {
         return d;
     }
-    filter_turned(s, base, along, d, t);
+    filter_turned(s, base, along, decision, t);
     d
 }

@@ -5,8 +5,8 @@ use mathlib.Core.List.{List}
 use mathlib.Core.Option.{Option, none}
 use Rattle.filter.specs.Kernel as Kernel
 use Rattle.filter.specs.Kernel.{Filter, kernel, lineOf}
-use Rattle.lines.specs.declared.LumaDecision.{LumaDecision}
-use Rattle.lines.specs.Answer.{caseOf}
+use Rattle.lines.specs.declared.LumaAnswer.{LumaAnswer}
+use Rattle.lines.specs.Answer.{answerOf}
 use Rattle.lines.specs.Decision.{decision}
 use Rattle.strips.specs.declared.Treatment.{Treatment}
 use Rattle.strips.specs.declared.Treatment.the-variants.{Closed, Luma, Chroma}
@@ -45,9 +45,9 @@ module _ (base across along : ℕ) {xs : List ℕ} {o : Option Filter} (largest 
       → Filtered 4 (taken kernel o) base across along xs xs × (Closed ≡ treatment o (windowAt xs base across along))
   closed e = untouched base across along (ap (optionOf largest) (sym e) ∙ looked)
 
-  pub luma : {ys : List ℕ} (β tc : ℕ) {d : LumaDecision} → r ≡ Case.Luma β tc
+  pub luma : {ys : List ℕ} (β tc : ℕ) {d : LumaAnswer} → r ≡ Case.Luma β tc
       → Filtered 4 (kernel (Kernel.luma β tc largest)) base across along xs ys
-      → d ≡ caseOf
+      → d ≡ answerOf
       (decision β tc (lineOf (windowAt xs base across along) 0) (lineOf (windowAt xs base across along) 3))
       → Filtered 4 (taken kernel o) base across along xs ys × (Luma d ≡ treatment o (windowAt xs base across along))
   luma β tc e f d = treated-as base across along (ap (optionOf largest) (sym e) ∙ looked) f (ap Luma d)

@@ -6,7 +6,7 @@ use Rattle.filter.specs.declared.Component.{Component}
 use Rattle.filter.specs.Kernel.{Filter, luma, chroma, lineOf, kernel}
 use Rattle.filter.specs.Pass.{pass}
 use Rattle.filter.specs.Segment.{Direction, vertical, horizontal}
-use Rattle.lines.specs.Answer.{caseOf}
+use Rattle.lines.specs.Answer.{answerOf}
 use Rattle.lines.specs.Decision.{decision}
 use Rattle.strips.specs.declared.Treatment.{Treatment}
 use Rattle.strips.specs.declared.Treatment.the-variants.{Closed, Luma, Chroma}
@@ -21,8 +21,8 @@ passFor vertical k f cells slices starts = pass kernel (f .columns) (segmentFor 
 passFor horizontal k f cells slices starts = crosswise kernel (f .rows) (segmentFor horizontal k f cells slices starts)
 
 -- what is done at a segment, by its filter and the window that it finds: the decision is that of the window's lines 0
--- and 3
+-- and 3, and its counts come with it
 abbrev pub treatment : Option Filter → Plane → Treatment
 treatment none W = Closed
-treatment (some (luma β tc largest)) W = Luma (caseOf (decision β tc (lineOf W 0) (lineOf W 3)))
+treatment (some (luma β tc largest)) W = Luma (answerOf (decision β tc (lineOf W 0) (lineOf W 3)))
 treatment (some (chroma tc largest)) W = Chroma

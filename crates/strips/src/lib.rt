@@ -5,12 +5,12 @@ mod segment;
 mod vertical;
 
 pub use horizontal::horizontal_strip;
-use lines::LumaDecision;
+use lines::LumaAnswer;
 pub use vertical::vertical_strip;
 
-// What was done at a segment: nothing, the luma filter by this decision, or the chroma filter.
+// What was done at a segment: nothing, the luma filter by this decision, with its counts, or the chroma filter.
 pub enum Treatment {
     Closed,
-    Luma(LumaDecision),
+    Luma(LumaAnswer),
     Chroma,
 }

@@ -1,4 +1,4 @@
--- `put_first` meets its contract: the word, and then tc.
+-- `put_first` meets its contract: the word, and then tc and both counts.
 -- Assumes nothing.
 use native.Mathlib.Omega.{arith}
 use Rattle.text.proofs.Append.{appended-then}
@@ -7,15 +7,15 @@ use borrow.Author.Needs.{needs}
 use Rattle.bench_lines.proofs.put_first.Statement.{statement}
 use Rattle.bench_lines.proofs.put_first.Tie as tie
 
--- back from tc to the word
-abbrev word : tie.After-put-number-then-arg → tie.After-put-word
+-- back from the numbers to the word
+abbrev word : tie.After-put-counts-arg → tie.After-put-word
 word c = c .before .before .before
 
 returns : tie.Need-returns
 unfolding firstText
 returns c =
-    let number = c .before .before in
-    (appended-then (word (number .before) .put-word .ensures .0) (number .put-number-then .ensures .0), omega arith)
+    let numbers = c .before .before in
+    (appended-then (word (numbers .before) .put-word .ensures .0) (numbers .put-counts .ensures .0), omega arith)
 
 pub put-first-spec : {M : Type 1} → statement M
 put-first-spec = tie.close (tie.spec (λ c κs. search needs) (λ c κs. search needs) (λ c. search needs) returns)

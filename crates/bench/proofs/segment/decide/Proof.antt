@@ -2,18 +2,19 @@
 -- Assumes nothing.
 use borrow.Author.Tests.{eq-eqb, ne-eqb}
 use Rattle.lines.specs.Answer.{caseOf}
+use Rattle.lines.specs.Decision.{sideCount}
 use Rattle.bench.specs.Code.{decisionOrSkip}
 use borrow.Author.Needs.{needs}
 use Rattle.bench.proofs.segment.decide.Statement.{statement}
 use Rattle.bench.proofs.segment.decide.Tie as tie
 
 returns : tie.Need-returns
-unfolding decisionOrSkip caseOf
-returns c = simp (eq-eqb _ _ (c .if1 .taken))
+unfolding decisionOrSkip caseOf sideCount
+returns c = simp (eq-eqb _ _ (c .before .if1 .taken)) (c .with-counts .ensures)
 
 returns-2 : tie.Need-returns-2
 unfolding decisionOrSkip
 returns-2 c = simp (ne-eqb _ _ (c .before .if1 .left)) (c .luma-decision .ensures)
 
 pub decide-spec : {M : Type 1} → statement M
-decide-spec = tie.close (tie.spec (λ c κs. search needs) returns returns-2)
+decide-spec = tie.close (tie.spec (λ c κs. search needs) (λ c κs. search needs) returns returns-2)

@@ -5,7 +5,7 @@ use native.Mathlib.Omega.{arith}
 use borrow.Author.Needs.{needs}
 use Rattle.filter.specs.declared.LumaFilter.{LumaFilter}
 use Rattle.lines.specs.declared.Line.{Line}
-use Rattle.lines.specs.Answer.{caseOf}
+use Rattle.lines.specs.Answer.{answerOf}
 use Rattle.lines.specs.Decision.{decision}
 use Rattle.window_lines.proofs.InList.{line-read}
 use Rattle.luma_windows.proofs.luma.decide.Statement.{statement}
@@ -17,7 +17,7 @@ returns c =
     let first = third .before in
     let t : LumaFilter = first .before .before .args .t in
     c .luma-decision .ensures
-    ∙ ap₂ (λ (a b : Line). caseOf (decision (t .beta) (t .tc) a b))
+    ∙ ap₂ (λ (a b : Line). answerOf (decision (t .beta) (t .tc) a b))
     (line-read _ _ _ _ 0 (omega arith) (omega arith) (first .take-line .ensures))
     (line-read _ _ _ _ 3 (omega arith) refl (third .take-line2 .ensures))
 
