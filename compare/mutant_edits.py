@@ -9,6 +9,7 @@ class Edit(NamedTuple):
     old: str  # stands once in the file
     new: str
     equal: str = ""
+    built: str = "tinladle"  # the crate that shows it: the library, or a program
 
 
 THRESHOLDS = [
@@ -63,7 +64,7 @@ WINDOWS = [
     Edit("luma_windows/rows", "l3: weak(t, p, q, w.l3)", "l3: weak(t, q, p, w.l3)"),
     Edit("window_lines/line", "take_line(s, base + 2 * along, across)", "take_line(s, base + along, across)"),
     Edit("luma_windows/turned", "take_line(t, j, 4)", "take_line(t, 3 - j, 4)"),
-    Edit("luma_windows/luma", "if let LumaDecision::Skip = d {", "if let LumaDecision::Strong = d {"),
+    Edit("luma_windows/luma", "if let LumaDecision::Skip = decision {", "if let LumaDecision::Strong = decision {"),
     Edit("chroma_windows/chroma", "at + across, a.p0, b.p0, c.p0, d.p0)", "at + across, a.p0, c.p0, b.p0, d.p0)"),
     Edit("chroma_windows/chroma", "let at = base + 2 * across;", "let at = base + 1 * across;"),
     Edit("chroma_windows/chroma", "put_pair(s, at + 1, l.p0, l.q0)", "put_pair(s, at + 1, l.p0, l.q1)"),
@@ -222,10 +223,10 @@ MISTAKES = [
         Direction::Vertical,
 """),
     Edit("segments/between", "if !v.same {", "let q = v.q;\n    if !v.same || q.flags / 4 % 2 == 1 {"),
-    Edit("luma_windows/luma", "filter_turned(s, base, along, d, t);", """for j in 0..4 {
+    Edit("luma_windows/luma", "filter_turned(s, base, along, decision, t);", """for j in 0..4 {
         let at = base + j * along;
         let l = take_line(s, at, 1);
-        window_lines::put_line(s, at, 1, lines::luma_line(luma_decision(t.beta, t.tc, l, l), t.largest, t.tc, l));
+        window_lines::put_line(s, at, 1, lines::luma_line(luma_decision(t.beta, t.tc, l, l).decision, t.largest, t.tc, l));
     }"""),
 ]
 
@@ -335,5 +336,32 @@ CONVERTER = [
     Edit("conversion_run/parts", "if !is_written {", "if !is_written & (list.len() == 0) {"),
 ]
 
+# The counts of document 02's C-20, which the bench prints: the flags the other way round, or not asked; one side's flag for the other;
+# a skip that says 1, a strong side that says 2 or 4; printed in the other order, or before tc; and the counts of another decision where
+# tc is 0.
+NONE, STRONG = "SideCounts { p: 0, q: 0 }", "SideCounts { p: 3, q: 3 }"
+PRINTED = """at, tc, 32);
+    let third = put_number_then(out, second, p, 32);"""
+COUNTS = [
+    Edit("lines/counts", "if flag { 2 } else { 1 }", "if flag { 1 } else { 2 }"),
+    Edit("lines/counts", "if flag { 2 } else { 1 }", "if flag { 2 } else { 2 }"),
+    Edit("lines/counts", "p: weak_count(do_p1)", "p: weak_count(do_q1)"),
+    Edit("lines/counts", "q: weak_count(do_q1)", "q: weak_count(do_p1)"),
+    Edit("lines/counts", NONE, "SideCounts { p: 1, q: 0 }"),
+    Edit("lines/counts", NONE, "SideCounts { p: 0, q: 1 }"),
+    Edit("lines/counts", STRONG, "SideCounts { p: 2, q: 3 }"),
+    Edit("lines/counts", STRONG, "SideCounts { p: 3, q: 4 }"),
+    Edit("bench_lines/lib", "c.p as u16", "c.q as u16"),
+    Edit("bench_lines/lib", PRINTED, """at, p, 32);
+    let third = put_number_then(out, second, tc, 32);"""),
+    Edit("bench/segment", "lines::with_counts(LumaDecision::Skip)",
+         "lines::LumaAnswer { decision: LumaDecision::Skip, counts: lines::with_counts(LumaDecision::Strong).counts }"),
+]
+
+
+def built_as(crate, edits):
+    return [edit._replace(built=crate) for edit in edits]
+
+
 EDITS = [*THRESHOLDS, *DECISION, *LINES, *WINDOWS, *GATE, *TILES_AND_POSITIONS, *PASSES, *RESTORATION, *CHECKS, *MISTAKES,
-         *EMPTY_LIST, *PALETTE, *RULE, *CONVERSION, *CONVERTER]
+         *EMPTY_LIST, *PALETTE, *RULE, *CONVERSION, *built_as("convert_cells", CONVERTER), *built_as("segment_bench", COUNTS)]

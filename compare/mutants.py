@@ -6,9 +6,9 @@
     compare/mutants.py --places         builds nothing: does each mutant's place stand once in the sources?
 
 A mutant is a copy of the sources under target/mutants changed at one place, built without proof (unproved.py). The comparison loads its
-library in place of the proved static library, or, where what is changed is not of the library, runs its program convert_cells. The
-unchanged sources go first: there the comparison must find nothing. Prints a line for each mutant. The status is 0 where every mutant was
-noticed but those that are argued to change no output.
+library in place of the proved static library, or runs its program convert_cells; of what the bench prints and the stage does not, the
+program segment_bench is run beside the oracle, on random records. The unchanged sources go first: there nothing may be found. Prints a
+line for each mutant. The status is 0 where every mutant was noticed but those that are argued to change no output.
 """
 
 import os
@@ -21,31 +21,35 @@ from pathlib import Path
 sys.dont_write_bytecode = True
 
 from mutant_edits import EDITS
-from unproved import CONVERTER, LIBRARY, ROOT, WORK, begin, build_converter, build_library, copy_sources, must, reached_by
+from unproved import BENCH, CONVERTER, LIBRARY, ROOT, WORK, begin, build_library, build_program, copy_sources, must
 
 ACCEPTED, DAMAGED, SEED = 4000, 8000, 7
-LISTS = 300  # through the program, each of up to 160 KiB
+LISTS = 300  # through convert_cells, each of up to 160 KiB
+RECORDS = 2000  # through segment_bench
 PATIENCE = 120  # seconds for one run: a mutant may not end
 
 
+def build(crate, folder):
+    return build_library(folder) if crate == LIBRARY else build_program(crate, folder)
+
+
 def prepare(source):
-    """The unchanged library and program, and the comparison linked to such a library."""
-    must(ROOT / "scripts" / "customer.sh", source)
+    """The folders of the unchanged library and programs, the comparison linked to such a library, and the oracle."""
+    must(ROOT / "oracle" / "build.sh", source)
     begin()
-    library, program = copy_sources("library", LIBRARY), copy_sources("program", CONVERTER)
-    if not build_library(library) or not build_converter(program):
+    unchanged = {crate: copy_sources(crate, crate) for crate in COMPARISONS}
+    if not all(build(crate, folder) for crate, folder in unchanged.items()):
         sys.exit("the unchanged sources do not compile")
     must("rustc", "--edition", "2024", "-C", "opt-level=3", "-C", "debug-assertions=on", "-C", "overflow-checks=on", "-L",
-         f"native={library}", "-l", "dylib=tinladle", "-o", WORK / "compare", ROOT / "compare" / "main.rs")
-    return library, program
+         f"native={unchanged[LIBRARY]}", "-l", "dylib=tinladle", "-o", WORK / "compare", ROOT / "compare" / "main.rs")
+    return unchanged
 
 
-def difference(words, library):
-    """What the comparison says, loading the library of a folder: None where it finds nothing."""
-    command = [str(word) for word in (WORK / "compare", *words, "--seed", SEED, "--no-shrink")]
+def difference(*command, **environment):
+    """What a comparison says: None where it finds nothing."""
     # A group of its own: what does not end is stopped with the programs that it runs.
-    running = subprocess.Popen(command, stdout=subprocess.PIPE, stderr=subprocess.PIPE, text=True, start_new_session=True,
-                               env={"LD_LIBRARY_PATH": str(library)})
+    running = subprocess.Popen([str(word) for word in command], stdout=subprocess.PIPE, stderr=subprocess.PIPE, text=True,
+                               start_new_session=True, env={**os.environ, **environment})
     try:
         printed, complained = running.communicate(timeout=PATIENCE)
     except subprocess.TimeoutExpired:
@@ -59,15 +63,27 @@ def difference(words, library):
     found = [line for line in printed.splitlines() if line.startswith("DIFFERENCE")]
     if not found:
         sys.exit(f"the comparison failed with status {running.returncode}: {complained.strip()[-200:]}")
-    return found[0].split(": ", 1)[1]
+    return found[0].removeprefix("DIFFERENCE").removeprefix(": ").strip()
+
+
+def compare_stage(library, *words):
+    return difference(WORK / "compare", *words, "--seed", SEED, "--no-shrink", LD_LIBRARY_PATH=str(library))
 
 
 def compare_library(folder):
-    return difference(["--accepted", ACCEPTED, "--damaged", DAMAGED], folder)
+    return compare_stage(folder, "--accepted", ACCEPTED, "--damaged", DAMAGED)
 
 
 def compare_converter(folder):
-    return difference(["--program", folder / "program", "--accepted", LISTS], WORK / "library")
+    return compare_stage(WORK / LIBRARY, "--program", folder / "program", "--accepted", LISTS)
+
+
+def compare_bench(folder):
+    found = difference(ROOT / "oracle" / "compare_bench.sh", folder / "program", RECORDS, SEED)
+    return found and f"the bench {found}"
+
+
+COMPARISONS = {LIBRARY: compare_library, CONVERTER: compare_converter, BENCH: compare_bench}
 
 
 def place(crates, edit):
@@ -102,24 +118,23 @@ def short(text):
 
 def try_one(number, edit):
     """Prints the mutant's line; whether it came out as expected."""
-    of_library = edit.file.split("/")[0] in reached_by(LIBRARY)[0]
-    folder = mutate(number, edit, LIBRARY if of_library else CONVERTER)
-    built = build_library(folder) if of_library else build_converter(folder)
-    compare = compare_library if of_library else compare_converter
-    found = compare(folder) if built else "does not compile"
+    folder = mutate(number, edit, edit.built)
+    built = build(edit.built, folder)
+    found = COMPARISONS[edit.built](folder) if built else "does not compile"
     shutil.rmtree(folder)
     outcome = found or (f"not noticed: {edit.equal}" if edit.equal else "NOT NOTICED")
     print(f"| {number} | {edit.file} | `{short(edit.old)}` | `{short(edit.new)}` | {outcome} |", flush=True)
     return built and (found is None) == bool(edit.equal)
 
 
-def try_unchanged(library, program):
-    """Whether the comparison finds nothing in the unchanged sources."""
-    print(f"comparison with --accepted {ACCEPTED} --damaged {DAMAGED} --seed {SEED}; of the program with {LISTS} lists")
-    found = [compare_library(library), compare_converter(program)]
-    for name, what in zip(["library", "program"], found):
-        print(f"the unchanged {name}, unproved: {what or 'no difference'}", flush=True)
-    return found == [None, None]
+def try_unchanged(unchanged):
+    """Whether nothing is found in the unchanged sources."""
+    print(f"comparison with --accepted {ACCEPTED} --damaged {DAMAGED} --seed {SEED}; of {CONVERTER} with {LISTS} lists, "
+          f"of {BENCH} with {RECORDS} records")
+    found = [COMPARISONS[crate](folder) for crate, folder in unchanged.items()]
+    for crate, what in zip(unchanged, found):
+        print(f"the unchanged {crate}, unproved: {what or 'no difference'}", flush=True)
+    return not any(found)
 
 
 def main():
@@ -134,7 +149,7 @@ def main():
         only = int(words[at + 1])
         del words[at:at + 2]
     source = Path(words[0] if words else ROOT.parent / "shared" / "docs" / "src").resolve()
-    good = try_unchanged(*prepare(source))
+    good = try_unchanged(prepare(source))
     print("| | file | line | mutant | noticed by |\n|---|---|---|---|---|")
     results = [try_one(number, edit) for number, edit in enumerate(EDITS, 1) if only in (None, number)]
     noticed = sum(not edit.equal for edit in EDITS)

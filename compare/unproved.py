@@ -1,8 +1,8 @@
 """Builds of the sources without proof, for mutants.py.
 
 The kit's `rattle-cases`, which `rt try` runs, lowers a program; a stand-in for its clang keeps the module that it is given and ends the
-build. From the module of a program that calls the library's functions a shared library is made, from that of the program convert_cells
-the program. All of it stands under target/mutants.
+build. From the module of a program that calls the library's functions a shared library is made, from that of convert_cells or of
+segment_bench the program. All of it stands under target/mutants.
 """
 
 import platform
@@ -15,7 +15,7 @@ from pathlib import Path
 
 ROOT = Path(__file__).resolve().parent.parent
 WORK = ROOT / "target" / "mutants"
-LIBRARY, CONVERTER = "tinladle", "convert_cells"
+LIBRARY, CONVERTER, BENCH = "tinladle", "convert_cells", "segment_bench"
 CALLER = WORK / "caller" / "main.rt"
 
 # A program that reaches the library's functions. It only has to be compiled.
@@ -143,10 +143,10 @@ def build_library(folder):
     return True
 
 
-def build_converter(folder):
-    """The program convert_cells, as `program` beside its sources; whether it compiles."""
-    crates, kits = reached_by(CONVERTER)
-    module = lowered(folder / CONVERTER / "src" / "main.rt", [crate for crate in crates if crate != CONVERTER], kits, folder)
+def build_program(name, folder):
+    """A program, as `program` beside its sources; whether it compiles."""
+    crates, kits = reached_by(name)
+    module = lowered(folder / name / "src" / "main.rt", [crate for crate in crates if crate != name], kits, folder)
     if not module:
         return False
     clang(module, "-c", "-O2", "-fPIC", "-o", folder / "program.o")
