@@ -1,5 +1,5 @@
--- Records whose text the definitions compute to: case S1, which prints what document 01 shows, whole; one that a
--- decision for each line would print otherwise; a refusal; a short record; and none.
+-- Records whose text the definitions compute to: case S1, which prints what documents 01 and 02 show, whole; one that a
+-- decision for each line would print otherwise; a weak segment, S3; a skip, S6; a refusal; a short record; and none.
 -- Assumes nothing.
 use Prim.Native.Nat.{ℕ}
 use mathlib.Core.Path.{_≡_, refl}
@@ -9,7 +9,7 @@ use Rattle.ints.specs.Int.{_⊖_, _⊞_, _⊟_, neg, _⊠_, lt, _>>_, clip3, ab
 use Rattle.thresholds.specs.Tables.{BETA, TC}
 use Rattle.thresholds.specs.Luma.{averageQp, betaIndex, tcIndex, scaled, lumaBeta, lumaTc}
 use Rattle.lines.specs.Decision.{activity, dSam, decision, sideCount}
-use Rattle.lines.specs.Luma.{near, strongLine, lumaLine}
+use Rattle.lines.specs.Luma.{clip1, near, strongLine, delta0, sideDelta, second, weakBy, weakLine, lumaLine}
 use Rattle.text.specs.Text.{decimalIn, decimal}
 use Rattle.bench_record.specs.Record.{sampleAt, lineOfRecord}
 use Rattle.bench_record.specs.Refusal.{othersBad, sideAbove, lineAbove, samplesAbove, refusalOf}
@@ -45,20 +45,47 @@ roughText =
     49 ∷ 48 ∷ 48 ∷ 32 ∷ 49 ∷ 48 ∷ 50 ∷ 32 ∷ 49 ∷ 48 ∷ 52 ∷ 32 ∷ 49 ∷ 48 ∷ 52 ∷ 32
     ∷ 49 ∷ 48 ∷ 52 ∷ 32 ∷ 49 ∷ 48 ∷ 51 ∷ 32 ∷ 49 ∷ 48 ∷ 52 ∷ 32 ∷ 49 ∷ 48 ∷ 52 ∷ 10 ∷ []
 
+-- S3: q side 113, `weak 5 2 2` and `100 100 102 105 108 111 113 113`
+abbrev s3Line : List ℕ
+s3Line = 100 ∷ 0 ∷ 100 ∷ 0 ∷ 100 ∷ 0 ∷ 100 ∷ 0 ∷ 113 ∷ 0 ∷ 113 ∷ 0 ∷ 113 ∷ 0 ∷ 113 ∷ 0 ∷ []
+
+abbrev weakText : List ℕ
+weakText = 119 ∷ 101 ∷ 97 ∷ 107 ∷ 32 ∷ 53 ∷ 32 ∷ 50 ∷ 32 ∷ 50 ∷ 10 ∷ []
+
+abbrev s3Text : List ℕ
+s3Text =
+    49 ∷ 48 ∷ 48 ∷ 32 ∷ 49 ∷ 48 ∷ 48 ∷ 32 ∷ 49 ∷ 48 ∷ 50 ∷ 32 ∷ 49 ∷ 48 ∷ 53 ∷ 32
+    ∷ 49 ∷ 48 ∷ 56 ∷ 32 ∷ 49 ∷ 49 ∷ 49 ∷ 32 ∷ 49 ∷ 49 ∷ 51 ∷ 32 ∷ 49 ∷ 49 ∷ 51 ∷ 10 ∷ []
+
+-- S6: both QP 15, `skip 0 0 0` and `100 100 100 100 104 104 104 104`
+abbrev s6Head : List ℕ
+s6Head = 8 ∷ 2 ∷ 79 ∷ 79 ∷ 6 ∷ 6 ∷ 0 ∷ 0 ∷ []
+
+abbrev skipText : List ℕ
+skipText = 115 ∷ 107 ∷ 105 ∷ 112 ∷ 32 ∷ 48 ∷ 32 ∷ 48 ∷ 32 ∷ 48 ∷ 10 ∷ []
+
+abbrev s6Text : List ℕ
+s6Text =
+    49 ∷ 48 ∷ 48 ∷ 32 ∷ 49 ∷ 48 ∷ 48 ∷ 32 ∷ 49 ∷ 48 ∷ 48 ∷ 32 ∷ 49 ∷ 48 ∷ 48 ∷ 32
+    ∷ 49 ∷ 48 ∷ 52 ∷ 32 ∷ 49 ∷ 48 ∷ 52 ∷ 32 ∷ 49 ∷ 48 ∷ 52 ∷ 32 ∷ 49 ∷ 48 ∷ 52 ∷ 10 ∷ []
+
 -- what comes first, and four parts after it, of which 0, 2 and 3 are alike
 abbrev parts : List ℕ → List ℕ → List ℕ → List ℕ
 parts first line other = first ++ (line ++ (other ++ (line ++ line)))
 
--- S1; and S1 with the rough line as line 1, which is filtered as lines 0 and 3 decide
+-- S1; S1 with the rough line as line 1, which is filtered as lines 0 and 3 decide; S3; S6
 pub prints :
     (benchText (parts s1Head s1Line s1Line) ≡ parts strongText s1Text s1Text)
     × (benchText (parts s1Head s1Line roughLine) ≡ parts strongText s1Text roughText)
+    × (benchText (parts s1Head s3Line s3Line) ≡ parts weakText s3Text s3Text)
+    × (benchText (parts s6Head s1Line s1Line) ≡ parts skipText s6Text s6Text)
 unfolding benchText recordText refusalOf othersBad samplesAbove lineAbove sideAbove sampleAt lineOfRecord
     segmentText firstText countsText wordText printedTc recordTc recordBeta recordQp recordDecision
     linesText lineText fourText decimal decimalIn
     averageQp betaIndex tcIndex scaled lumaBeta lumaTc BETA TC activity dSam decision sideCount lumaLine strongLine near
+    clip1 delta0 sideDelta second weakBy weakLine
     _⊖_ _⊞_ _⊟_ neg _⊠_ lt _>>_ clip3 abs natOf
-prints = (refl, refl)
+prints = (refl, refl, refl, refl)
 
 -- `refused 9`: bS 3; `short`: a record that is short by one byte; nothing
 pub others :

@@ -4,7 +4,15 @@ ghost use Prim.Native.Nat.{_+_, _≤_};
 ghost use lib.ListN.{length};
 ghost use Rattle.text.specs.Text.{Puts};
 ghost use Rattle.lines.specs.Answer.{valuesOf};
-ghost use Rattle.bench_lines.specs.Lines.{wordText, countsText, firstText, fourText, lineText, linesText, refusedText};
+ghost use Rattle.bench_lines.specs.Lines.{
+  wordText,
+  countsText,
+  firstText,
+  fourText,
+  lineText,
+  linesText,
+  refusedText,
+};
 use lines::Line;
 use lines::LumaAnswer;
 use lines::LumaDecision;

@@ -2,7 +2,6 @@
 use Prim.Native.Nat.{ℕ, _+_, _-_, _≤_, _<_}
 use mathlib.Core.Path.{_≡_}
 use Rattle.filter.specs.Kernel.{luma, lineOf, kernel}
-use Rattle.lines.specs.declared.SideCounts.{SideCounts}
 use Rattle.lines.specs.Counted.{SameBeyond}
 use Rattle.lines.specs.Decision.{Decision, decision, countsOf}
 use Rattle.lines.specs.Luma.{lumaLine}

@@ -16,6 +16,7 @@ use Rattle.lines.specs.Answer.{valuesOf}
 use Rattle.lines.specs.Counted.{fromEdge, pFromEdge, qFromEdge, SameBeyond}
 use Rattle.lines.specs.Decision.{Decision, sideCount, countsOf}
 use Rattle.lines.specs.Luma.{clip1, near, strongLine, delta0, sideDelta, second, weakBy, weakLine, lumaLine}
+use Rattle.lines.proofs.Within.{of-chosen}
 
 -- ---- one side: only its fourth sample stays, or all from the second or the third on by the side's flag
 
@@ -38,11 +39,6 @@ by-flag false a b a′ x1 x2 x3 (suc i) h = refl
 same : (counts : SideCounts) (l : Line) → SameBeyond counts l l
 same counts l = record { p-same = λ i h. refl; q-same = λ i h. refl }
 
-either : (counts : SideCounts) {l m n : Line} (t : Bool) → SameBeyond counts l m → SameBeyond counts l n
-    → SameBeyond counts l (cond t m n)
-either counts true h k = h
-either counts false h k = k
-
 strong-beyond : (t : ℕ) (l : Line) → SameBeyond (record { p = 3; q = 3 }) l (strongLine t l)
 unfolding strongLine
 strong-beyond t l = record { p-same = fourth-stays _ _ _ _ _ _ (l .p3); q-same = fourth-stays _ _ _ _ _ _ (l .q3) }
@@ -60,7 +56,7 @@ weak-beyond : (largest t : ℕ) (dEp dEq : Bool) (l : Line)
     → SameBeyond (record { p = cond dEp 2 1; q = cond dEq 2 1 }) l (weakLine largest t dEp dEq l)
 unfolding weakLine
 weak-beyond largest t dEp dEq l =
-    either _ (ltb (abs (delta0 (pos (l .p1)) (pos (l .p0)) (pos (l .q0)) (pos (l .q1)))) (t * 10))
+    of-chosen (SameBeyond _ l) (ltb (abs (delta0 (pos (l .p1)) (pos (l .p0)) (pos (l .q0)) (pos (l .q1)))) (t * 10))
     (weak-by-beyond largest t dEp dEq l _)
     (same _ l)
 
@@ -76,7 +72,8 @@ line-beyond d largest t l = go (d .dE) (d .dEp) (d .dEq)
     go (suc zero) dEp dEq = weak-beyond largest t dEp dEq l
     go (suc (suc zero)) dEp dEq = strong-beyond t l
     go (suc (suc (suc n))) dEp dEq =
-        simp (ne-eqb (suc (suc (suc n))) 2 (λ e. omega arith), ne-eqb (suc (suc (suc n))) 1 (λ e. omega arith)) (same _ l)
+        let large : ℕ = suc (suc (suc n)) in
+        simp (ne-eqb large 2 (λ e. omega arith), ne-eqb large 1 (λ e. omega arith)) (same _ l)
 
 -- the last counted sample of each side can move: a step of 12 by the strong filter, tC 5, and by the weak one with both
 -- flags and with none

@@ -1,7 +1,7 @@
 -- Where the Rust and the standard write different steps and no sample can show it.
 use Prim.Native.Nat.{ℕ, _+_, _*_, _/_, _≤_}
 use mathlib.Core.Path.{_≡_, refl, sym, _∙_, ap}
-use mathlib.Core.Bool.{Bool, true, false, cond}
+use mathlib.Core.Bool.{Bool}
 use native.Mathlib.Omega.{arith}
 use lib.Dec.{eqb}
 use lib.IntN.{ℤ, pos}
@@ -14,7 +14,7 @@ use Rattle.lines.specs.Chroma.{chromaLine}
 use Rattle.lines.specs.Decision.{Decision}
 use Rattle.lines.specs.Luma.{clip1, near, strongLine, delta0, weakLine, lumaLine}
 use Rattle.lines.proofs.Numbers.{near-is}
-use Rattle.lines.proofs.Within.{Within, near-whole}
+use Rattle.lines.proofs.Within.{Within, near-whole, of-chosen}
 
 -- ---- the Rust holds each strong sample to 0 .. max besides; a line in range does not show it
 
@@ -79,15 +79,12 @@ unfolding weakLine
 weak-zero largest p q l =
     simp (le-ltb (abs (delta0 (pos (l .p1)) (pos (l .p0)) (pos (l .q0)) (pos (l .q1)))) 0 (omega arith))
 
-either-is : {A : Type 0} {a b c : A} (t : Bool) → a ≡ c → b ≡ c → cond t a b ≡ c
-either-is true h k = h
-either-is false h k = k
-
 pub tc-zero : (d : Decision) (largest : ℕ) (l : Line) → lumaLine d largest 0 l ≡ l
 unfolding lumaLine
 tc-zero d largest l =
-    either-is (eqb (d .dE) 2) (strong-zero l)
-    (either-is (eqb (d .dE) 1) (weak-zero largest (d .dEp) (d .dEq) l) refl)
+    let stays : Line → Type 0 = λ m. m ≡ l in
+    of-chosen stays (eqb (d .dE) 2) (strong-zero l)
+    (of-chosen stays (eqb (d .dE) 1) (weak-zero largest (d .dEp) (d .dEq) l) refl)
 
 -- Clip3(-0, 0, v) is 0
 clip-zero : (v : ℤ) → clip3 (neg (pos 0)) (pos 0) v ≡ pos 0

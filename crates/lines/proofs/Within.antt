@@ -76,21 +76,21 @@ weak-by-within t p q d w =
       q3≤ = w .q3≤;
     }
 
-either-within : {largest : ℕ} {a b : Line} (t : Bool) → Within largest a → Within largest b
-    → Within largest (cond t a b)
-either-within true h k = h
-either-within false h k = k
+-- what holds of both lines holds of the chosen one
+pub of-chosen : (P : Line → Type 0) {a b : Line} (t : Bool) → P a → P b → P (cond t a b)
+of-chosen P true h k = h
+of-chosen P false h k = k
 
 pub weak-within : {largest : ℕ} {l : Line} (t : ℕ) (p q : Bool) → Within largest l
     → Within largest (weakLine largest t p q l)
 unfolding weakLine
 weak-within {largest} {l} t p q w =
     let d0 : ℤ = delta0 (pos (l .p1)) (pos (l .p0)) (pos (l .q0)) (pos (l .q1)) in
-    either-within (ltb (abs d0) (t * 10)) (weak-by-within t p q (clip3 (neg (pos t)) (pos t) d0) w) w
+    of-chosen (Within largest) (ltb (abs d0) (t * 10)) (weak-by-within t p q (clip3 (neg (pos t)) (pos t) d0) w) w
 
 pub luma-within : {largest : ℕ} {l : Line} (d : Decision) (t : ℕ) → Within largest l
     → Within largest (lumaLine d largest t l)
 unfolding lumaLine
-luma-within d t w =
-    either-within (eqb (d .dE) 2) (strong-within t w)
-    (either-within (eqb (d .dE) 1) (weak-within t (d .dEp) (d .dEq) w) w)
+luma-within {largest} d t w =
+    of-chosen (Within largest) (eqb (d .dE) 2) (strong-within t w)
+    (of-chosen (Within largest) (eqb (d .dE) 1) (weak-within t (d .dEp) (d .dEq) w) w)

@@ -3,7 +3,6 @@ use Prim.Native.Nat.{ℕ, _<_}
 use mathlib.Core.Path.{_≡_, refl, sym, ap, _∙_, subst}
 use mathlib.Core.Bool.{Bool}
 use mathlib.Core.List.{List}
-use native.Mathlib.Omega.{arith}
 use lib.ListN.{getD}
 use Rattle.filter.specs.declared.LumaFilter.{LumaFilter}
 use Rattle.filter.specs.Answer.{lumaOf}
@@ -80,8 +79,9 @@ unfolding decidedBy kernel
 kernel-decided t base across along {d} {xs} {ys} made =
     let W : Plane = windowAt xs base across along in
     let D : Decision = decision (t .beta) (t .tc) (lineOf W 0) (lineOf W 3) in
+    let by : Decision → Line → Line = λ e. lumaLine e (t .largest) (t .tc) in
     filtered-as 4 _ _ base across along xs ys
     (λ i j hi hj.
-    ap (λ (a : LumaAnswer). getD (samplesOf (lumaLine (valuesOf (a .decision)) (t .largest) (t .tc) (lineOf W j))) i 0) made
+    ap (λ (a : LumaAnswer). getD (samplesOf (by (valuesOf (a .decision)) (lineOf W j))) i 0) made
     ∙ ap (λ (r : Line). getD (samplesOf r) i 0)
     (case-filters D (t .largest) (t .tc) (lineOf W j) (decision-known (t .beta) (t .tc) (lineOf W 0) (lineOf W 3))))

@@ -11,7 +11,6 @@ use Rattle.lines.specs.Decision.{decision}
 use Rattle.strips.specs.declared.Treatment.{Treatment}
 use Rattle.strips.specs.declared.Treatment.the-variants.{Closed, Luma, Chroma}
 use Rattle.strips.specs.Passed.{treatment}
-use Rattle.picture.specs.Plane.{Plane}
 use Rattle.planes.specs.Window.{windowAt, Filtered, taken}
 use Rattle.planes.proofs.Windows.{filtered-same}
 use Rattle.segments.specs.declared.Segment.{Segment}
