@@ -337,8 +337,8 @@ CONVERTER = [
 ]
 
 # The counts of document 02's C-20, which the bench prints: the flags the other way round, or not asked; one side's flag for the other;
-# a skip that says 1, a strong side that says 2 or 4; printed in the other order, or before tc; and the counts of another decision where
-# tc is 0.
+# a skip that says 1, a strong side that says 2 or 4; Q's count printed for P's, or P's before tc; and the counts of another decision
+# where tc is 0.
 NONE, STRONG = "SideCounts { p: 0, q: 0 }", "SideCounts { p: 3, q: 3 }"
 PRINTED = """at, tc, 32);
     let third = put_number_then(out, second, p, 32);"""

@@ -80,7 +80,7 @@ def compare_converter(folder):
 
 def compare_bench(folder):
     found = difference(ROOT / "oracle" / "compare_bench.sh", folder / "program", RECORDS, SEED)
-    return found and f"the bench {found}"
+    return found and f"bench: {found}"
 
 
 COMPARISONS = {LIBRARY: compare_library, CONVERTER: compare_converter, BENCH: compare_bench}

@@ -2,7 +2,8 @@
 """The segment bench once more, in Python: standard input to standard output.
 
 Written from document 01, document 02's C-20 and clause 8.7.2 of ITU-T H.265, and it shares nothing
-with the customer's Rust, so that the two can be held against each other. The names are the standard's.
+with the customer's Rust, so that the two can be held against each other. The names are the standard's,
+but for C-20's counts.
 """
 
 import sys
@@ -133,8 +134,8 @@ def answer(record):
     dE, dEp, dEq = decide(beta, tc, lines) if tc > 0 else (0, 0, 0)
     if dE > 0:
         lines = [filter_line(dE, dEp, dEq, tc, depth, line) for line in lines]
-    kind, nDp, nDq = [("skip", 0, 0), ("weak", dEp + 1, dEq + 1), ("strong", 3, 3)][dE]
-    return [f"{kind} {tc} {nDp} {nDq}"] + [" ".join(str(sample) for sample in line) for line in lines]
+    kind, count_p, count_q = [("skip", 0, 0), ("weak", dEp + 1, dEq + 1), ("strong", 3, 3)][dE]
+    return [f"{kind} {tc} {count_p} {count_q}"] + [" ".join(str(sample) for sample in line) for line in lines]
 
 
 def main():

@@ -15,9 +15,9 @@ trap 'rm -rf "$scratch"' EXIT
 "$records" random "$3" "$4" >"$scratch/input"
 "$records" expect <"$scratch/input" >"$scratch/expected"
 status=0
-"$program" <"$scratch/input" >"$scratch/actual" || { echo "PROGRAM ended with status $?"; status=1; }
+"$program" <"$scratch/input" >"$scratch/actual" || { echo "DIFFERENCE: PROGRAM ended with status $?"; status=1; }
 "$records" compare "$scratch/input" "$scratch/expected" "$scratch/actual" || status=1
 
-"$program" </dev/null >"$scratch/nothing" || { echo "PROGRAM ended with status $? on empty input"; status=1; }
+"$program" </dev/null >"$scratch/nothing" || { echo "DIFFERENCE: PROGRAM ended with status $? on empty input"; status=1; }
 [ ! -s "$scratch/nothing" ] || { echo "DIFFERENCE: empty input prints something"; status=1; }
 exit $status

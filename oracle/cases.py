@@ -123,7 +123,8 @@ S1 = Segment("S1: q side 104", "strong 5", step(100, 104), gives=[100, 101, 101,
 def figures():
     yield Segment("S2: q side 112", "strong 5", step(100, 112), gives=[100, 102, 103, 105, 108, 109, 111, 112])
     yield Segment("S3: q side 113", "weak 5 2 2", step(100, 113), gives=[100, 100, 102, 105, 108, 111, 113, 113])
-    yield Segment("S4: q side 231, delta 49", "weak 5 2 2", step(100, 231), gives=[100, 100, 102, 105, 226, 229, 231, 231])
+    yield Segment("S4: q side 231, delta 49", "weak 5 2 2", step(100, 231),
+                  gives=[100, 100, 102, 105, 226, 229, 231, 231])
     yield Segment("S5: q side 232, delta 50", "weak 5 2 2", step(100, 232), gives=step(100, 232))
     yield Segment("S6: QP 15, beta 0 and tc 0", "skip 0", step(100, 104), qp=15, gives=step(100, 104))
     yield Segment("S7: QP -1 and -2 at depth 10", "skip 0", step(400, 408), depth=10, qp_p=-1, qp_q=-2,
@@ -309,8 +310,8 @@ def lines_0_and_3():
                   plain, plain, [99, 102, 100, 100, 88, 88, 86, 90])
     yield Segment("strong, lines 1 and 2 wild: moves held to 2 * tc", "strong 5", plain, zigzag, gazgiz, plain,
                   moved="p2 p1 p0 q0 q1 q2")
-    yield Segment("weak, lines 1 and 2 wild: a delta for each line", "weak 5 2 2", step(100, 113), zigzag, step(200, 10),
-                  step(100, 113))
+    yield Segment("weak, lines 1 and 2 wild: a delta for each line", "weak 5 2 2", step(100, 113), zigzag,
+                  step(200, 10), step(100, 113))
     for name, first, last in [("lines 0 and 3", zigzag, gazgiz), ("line 0", zigzag, plain), ("line 3", plain, zigzag)]:
         yield Segment(f"skip by {name}", "skip 5", first, plain, plain, last, gives=[first, plain, plain, last])
 

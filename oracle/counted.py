@@ -31,6 +31,7 @@ def check_bench(name, before, after):
 
 def main():
     before, after = two_revisions(__doc__)
+    assert streams(before) == streams(after), "the two revisions have not the same stored files"
     moved = [f"crates/{crate}/stdout" for crate in BENCHES]
     for name in streams(before):
         if name in moved:
@@ -38,7 +39,6 @@ def main():
         else:
             assert git("show", f"{before}:{name}") == git("show", f"{after}:{name}"), f"{name} moved"
             print(f"{name}: the same bytes")
-    assert streams(before) == streams(after), "there are other stored files"
 
 
 if __name__ == "__main__":

@@ -14,7 +14,7 @@ use Rattle.text.specs.Text.{decimalIn, decimal}
 use Rattle.bench_record.specs.Record.{sampleAt, lineOfRecord}
 use Rattle.bench_record.specs.Refusal.{othersBad, sideAbove, lineAbove, samplesAbove, refusalOf}
 use Rattle.bench.specs.Bench.{recordQp, recordBeta, recordTc, printedTc, recordDecision}
-use Rattle.bench_lines.specs.Lines.{wordText, countsText, firstText, fourText, lineText, linesText, refusedText}
+use Rattle.bench_lines.specs.Lines.{wordText, numbersText, firstText, fourText, lineText, linesText, refusedText}
 use Rattle.bench.specs.Bench.{segmentText, shortText, recordText, benchText}
 
 -- depth 8, bS 2, both QP 37, offsets 0
@@ -80,7 +80,7 @@ pub prints :
     × (benchText (parts s1Head s3Line s3Line) ≡ parts weakText s3Text s3Text)
     × (benchText (parts s6Head s1Line s1Line) ≡ parts skipText s6Text s6Text)
 unfolding benchText recordText refusalOf othersBad samplesAbove lineAbove sideAbove sampleAt lineOfRecord
-    segmentText firstText countsText wordText printedTc recordTc recordBeta recordQp recordDecision
+    segmentText firstText numbersText wordText printedTc recordTc recordBeta recordQp recordDecision
     linesText lineText fourText decimal decimalIn
     averageQp betaIndex tcIndex scaled lumaBeta lumaTc BETA TC activity dSam decision sideCount lumaLine strongLine near
     clip1 delta0 sideDelta second weakBy weakLine

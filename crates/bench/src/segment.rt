@@ -76,9 +76,9 @@ pub(crate) fn put_segment(input: &[u8], out: &mut [u8]) -> usize
     let l1 = line_of_record(input, 1);
     let l2 = line_of_record(input, 2);
     let l3 = line_of_record(input, 3);
-    let d = decide(t, l0, l3);
-    let decision = d.decision;
-    let next = put_first(out, 0, d, t.tc);
+    let answer = decide(t, l0, l3);
+    let decision = answer.decision;
+    let next = put_first(out, 0, answer, t.tc);
     put_lines(
         out,
         next,

@@ -15,14 +15,14 @@ wordText dE =
     (cond (eqb dE 2) (115 ∷ 116 ∷ 114 ∷ 111 ∷ 110 ∷ 103 ∷ 32 ∷ [])
     (119 ∷ 101 ∷ 97 ∷ 107 ∷ 32 ∷ []))
 
--- C-20: "both counts after tc", P's and then Q's
-unfoldable pub countsText : ℕ → SideCounts → List ℕ
-countsText tc c = decimal tc ++ (32 ∷ decimal (c .p) ++ (32 ∷ decimal (c .q) ++ (10 ∷ [])))
+-- tc and, C-20, "both counts after tc", P's and then Q's, to the end of the line
+unfoldable pub numbersText : ℕ → SideCounts → List ℕ
+numbersText tc c = decimal tc ++ (32 ∷ decimal (c .p) ++ (32 ∷ decimal (c .q) ++ (10 ∷ [])))
 
 -- "a first line with `skip`, `strong` or `weak` and the scaled tc"; C-20: "The bench prints both counts after tc on its
 -- first line"
 unfoldable pub firstText : ℕ → ℕ → SideCounts → List ℕ
-firstText dE tc c = wordText dE ++ countsText tc c
+firstText dE tc c = wordText dE ++ numbersText tc c
 
 -- four numbers, "split by one space", and the byte `last` after them
 unfoldable pub fourText : ℕ → ℕ → ℕ → ℕ → ℕ → List ℕ

@@ -6,7 +6,7 @@ ghost use Rattle.text.specs.Text.{Puts};
 ghost use Rattle.lines.specs.Answer.{valuesOf};
 ghost use Rattle.bench_lines.specs.Lines.{
   wordText,
-  countsText,
+  numbersText,
   firstText,
   fourText,
   lineText,
@@ -33,9 +33,9 @@ fn put_word(out: &mut [u8], at: usize, d: LumaDecision) -> usize
 }
 
 // tc and both counts, to the end of the line.
-fn put_counts(out: &mut [u8], at: usize, tc: u16, c: SideCounts) -> usize
+fn put_numbers(out: &mut [u8], at: usize, tc: u16, c: SideCounts) -> usize
     requires { ⌜ at + 18 ≤ length (now out) ⌝ }
-    ensures { λ r. ⌜ Puts out at (countsText tc c) r ⌝ }
+    ensures { λ r. ⌜ Puts out at (numbersText tc c) r ⌝ }
     ensures { λ r. ⌜ r ≤ at + 18 ⌝ }
 {
     let p = c.p as u16;
@@ -46,15 +46,15 @@ fn put_counts(out: &mut [u8], at: usize, tc: u16, c: SideCounts) -> usize
 }
 
 // The decision, tc and both counts.
-pub fn put_first(out: &mut [u8], at: usize, d: LumaAnswer, tc: u16) -> usize
+pub fn put_first(out: &mut [u8], at: usize, answer: LumaAnswer, tc: u16) -> usize
     requires { ⌜ at + 25 ≤ length (now out) ⌝ }
-    ensures { λ r. ⌜ Puts out at (firstText (valuesOf (d .decision) .dE) tc (d .counts)) r ⌝ }
+    ensures { λ r. ⌜ Puts out at (firstText (valuesOf (answer .decision) .dE) tc (answer .counts)) r ⌝ }
     ensures { λ r. ⌜ r ≤ at + 25 ⌝ }
 {
-    let decision = d.decision;
-    let counts = d.counts;
+    let decision = answer.decision;
+    let counts = answer.counts;
     let next = put_word(out, at, decision);
-    put_counts(out, next, tc, counts)
+    put_numbers(out, next, tc, counts)
 }
 
 fn put_four(out: &mut [u8], at: usize, a: u16, b: u16, c: u16, d: u16, last: u8) -> usize

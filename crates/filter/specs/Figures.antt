@@ -1,5 +1,5 @@
--- Document 01, 'Figures to check': the starred cases as one list, and what it is that the definitions give a figure;
--- of document 02, C-20's counts, P's and Q's, of the segments.
+-- Document 01, 'Figures to check': the starred cases as one list, and what it is that the definitions give a figure; a
+-- segment's with its counts (document 02, C-20).
 use Prim.Native.Nat.{ℕ}
 use mathlib.Core.Path.{_≡_}
 use mathlib.Core.Bool.{true}

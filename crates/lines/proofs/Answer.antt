@@ -1,15 +1,16 @@
--- The enum LumaDecision loses nothing that the filter reads: filtering by a decision's case is filtering by the
--- decision. Nor do its counts.
+-- The enum LumaDecision loses nothing that is read of a decision: filtering by a decision's case is filtering by the
+-- decision, and the counts of the case are the decision's.
 use Prim.Native.Nat.{ℕ, zero, suc, _+_, _*_, _/_, _^_, _≤_}
 use mathlib.Core.Path.{_≡_, refl, ap, _∙_}
 use mathlib.Core.Bool.{Bool, true, false, cond, _&&_}
 use native.Mathlib.Omega.{arith}
 use lib.Dec.{ltb}
 use Rattle.lines.specs.declared.Line.{Line}
+use Rattle.lines.specs.declared.LumaAnswer.{LumaAnswer}
 use Rattle.lines.specs.declared.LumaDecision.{LumaDecision}
-use Rattle.lines.specs.declared.LumaDecision.the-variants.{Skip, Strong, Weak}
+use Rattle.lines.specs.declared.LumaDecision.the-variants.{Skip}
 use Rattle.lines.specs.Answer.{valuesOf, caseOf, answerOf}
-use Rattle.lines.specs.Decision.{Decision, dpOf, dqOf, dSam, decision, sideCount}
+use Rattle.lines.specs.Decision.{Decision, dpOf, dqOf, dSam, decision, sideCount, countsOf}
 use Rattle.lines.specs.Luma.{lumaLine}
 
 -- each decision with dE 0, 1 or 2
@@ -41,18 +42,11 @@ pub case-keeps : (d : Decision) → d .dE ≤ 2 → valuesOf (caseOf d) .dE ≡ 
 unfolding caseOf
 case-keeps = by-case (λ e. valuesOf (caseOf e) .dE ≡ e .dE) (λ p q. refl) (λ p q. refl) (λ p q. refl)
 
--- a case is the case of its own values
-pub case-of-values : (c : LumaDecision) → caseOf (valuesOf c) ≡ c
-unfolding caseOf
-case-of-values Skip = refl
-case-of-values Strong = refl
-case-of-values (Weak p q) = refl
-
--- the answer on a decision's case is the answer on the decision
-case-answers : (d : Decision) → d .dE ≤ 2 → answerOf (valuesOf (caseOf d)) ≡ answerOf d
+-- the counts of a decision's case are the decision's
+case-counts : (d : Decision) → d .dE ≤ 2 → countsOf (valuesOf (caseOf d)) ≡ countsOf d
 unfolding caseOf sideCount
-case-answers =
-    by-case (λ (e : Decision). answerOf (valuesOf (caseOf e)) ≡ answerOf e) (λ p q. refl) (λ p q. refl) (λ p q. refl)
+case-counts =
+    by-case (λ (e : Decision). countsOf (valuesOf (caseOf e)) ≡ countsOf e) (λ p q. refl) (λ p q. refl) (λ p q. refl)
 
 known : (t s p q : Bool) → (cond t (record { dE = cond s 2 1; dEp = p; dEq = q }) (valuesOf Skip)) .dE ≤ 2
 known true true p q = omega arith
@@ -68,8 +62,12 @@ decision-known β tc l0 l3 =
     (ltb (dpOf l0 + dpOf l3) ((β + β / 2 ^ 1) / 2 ^ 3))
     (ltb (dqOf l0 + dqOf l3) ((β + β / 2 ^ 1) / 2 ^ 3))
 
-pub decision-answered : (β tc : ℕ) (l0 l3 : Line) {c : LumaDecision} → c ≡ caseOf (decision β tc l0 l3)
-    → answerOf (valuesOf c) ≡ answerOf (decision β tc l0 l3)
-decision-answered β tc l0 l3 e =
-    ap (λ (k : LumaDecision). answerOf (valuesOf k)) e
-    ∙ case-answers (decision β tc l0 l3) (decision-known β tc l0 l3)
+-- a case that is the decision's, with the counts of that case, is the answer
+pub decision-answered : (β tc : ℕ) (l0 l3 : Line) {c : LumaDecision} {r : LumaAnswer}
+    → c ≡ caseOf (decision β tc l0 l3) → r .decision ≡ c → r .counts ≡ countsOf (valuesOf c)
+    → r ≡ answerOf (decision β tc l0 l3)
+decision-answered β tc l0 l3 {r = r} e case-is counts-are =
+    let d : Decision = decision β tc l0 l3 in
+    let of-case : r .counts ≡ countsOf d =
+    counts-are ∙ ap (λ (k : LumaDecision). countsOf (valuesOf k)) e ∙ case-counts d (decision-known β tc l0 l3) in
+    λ i. record { decision = (case-is ∙ e) i; counts = of-case i }

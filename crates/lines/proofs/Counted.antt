@@ -1,10 +1,10 @@
--- What the counts of C-20 mean, at a general depth: samples beyond the counted ones next to the edge stay as they were,
--- whatever the decision; and no count is too high.
+-- What the counts of C-20 mean: at a general depth, samples beyond the counted ones next to the edge stay as they were,
+-- whatever the decision, and the fourth always does. Each count is reached, as a step at depth 8 shows.
 use Prim.Native.Nat.{ℕ, zero, suc, _*_, _≤_}
 use mathlib.Core.Path.{_≡_, refl}
 use mathlib.Core.Bool.{Bool, true, false, cond}
 use native.Mathlib.Omega.{arith}
-use lib.Dec.{ltb}
+use lib.Dec.{ltb, eqb}
 use lib.IntN.{ℤ, pos}
 use borrow.Author.Tests.{ne-eqb}
 use Rattle.ints.specs.Int.{_⊞_, _⊟_, neg, _⊠_, lt, _>>_, clip3, abs, natOf}
@@ -17,6 +17,18 @@ use Rattle.lines.specs.Counted.{fromEdge, pFromEdge, qFromEdge, SameBeyo
 use Rattle.lines.specs.Decision.{Decision, sideCount, countsOf}
 use Rattle.lines.specs.Luma.{clip1, near, strongLine, delta0, sideDelta, second, weakBy, weakLine, lumaLine}
 use Rattle.lines.proofs.Within.{of-chosen}
+
+-- ---- a count is 3 at the most
+
+pub count-most : (dE : ℕ) (flag : Bool) → sideCount dE flag ≤ 3
+unfolding sideCount
+count-most dE flag = go (eqb dE 0) (eqb dE 2) flag
+  where
+    go : (skip strong on : Bool) → cond skip 0 (cond strong 3 (cond on 2 1)) ≤ 3
+    go true strong on = omega arith
+    go false true on = omega arith
+    go false false true = omega arith
+    go false false false = omega arith
 
 -- ---- one side: only its fourth sample stays, or all from the second or the third on by the side's flag
 

@@ -6,7 +6,7 @@ use lib.ListN.{getD}
 use Rattle.lines.specs.declared.Line.{Line}
 use Rattle.lines.specs.declared.SideCounts.{SideCounts}
 
--- sample i of a side's four, from the edge outwards: 0 is next to it
+-- sample i of a side's four, from the edge outwards: 0 is next to it; from 4 on there is none, and it reads as 0
 abbrev pub fromEdge : ℕ → ℕ → ℕ → ℕ → ℕ → ℕ
 fromEdge x0 x1 x2 x3 i = getD (x0 ∷ x1 ∷ x2 ∷ x3 ∷ []) i 0
 

@@ -55,9 +55,9 @@ decision β tc l0 l3 =
 
 -- ---- document 02, C-20: "for P and for Q, how many samples next to the edge it may change"
 
--- one side's count, by dE and that side's flag: "0 for skip, 3 for strong, 1 or 2 for weak by its side flag". To a line
--- that is filtered 8.7.2.5.7 gives the same numbers as nDp and nDq; that a line is too rough for the weak filter, or a
--- side suppressed, where those are 0, is not known to the decision.
+-- one side's count, by dE and that side's flag: "0 for skip, 3 for strong, 1 or 2 for weak by its side flag". nDp and
+-- nDq of 8.7.2.5.7 are these numbers on a line that is filtered, and 0 on a line that is too rough for the weak filter
+-- and on a suppressed side, of which dE and the flags do not tell.
 unfoldable pub sideCount : ℕ → Bool → ℕ
 sideCount dE flag = cond (eqb dE 0) 0 (cond (eqb dE 2) 3 (cond flag 2 1))
 

@@ -4,10 +4,10 @@ use crate::LumaDecision;
 use crate::SideCounts;
 ghost use mathlib.Core.Bool.{cond};
 ghost use mathlib.Core.Path.{_≡_};
-ghost use Rattle.lines.specs.Answer.{answerOf, valuesOf};
+ghost use Rattle.lines.specs.Answer.{valuesOf};
 ghost use Rattle.lines.specs.Decision.{countsOf};
 
-// The weak filter changes the first sample of a side, and the second where the side's flag says so.
+// The weak filter may change the first sample of a side, and the second where the side's flag says so.
 fn weak_count(flag: bool) -> u8
     ensures { λ r. ⌜ r ≡ cond flag 2 1 ⌝ }
 {
@@ -29,7 +29,8 @@ fn counts_of(d: LumaDecision) -> SideCounts
 
 // A decision and its counts.
 pub fn with_counts(d: LumaDecision) -> LumaAnswer
-    ensures { λ r. ⌜ r ≡ answerOf (valuesOf d) ⌝ }
+    ensures { λ r. ⌜ r .decision ≡ d ⌝ }
+    ensures { λ r. ⌜ r .counts ≡ countsOf (valuesOf d) ⌝ }
 {
     LumaAnswer {
         decision: d,

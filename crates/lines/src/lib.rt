@@ -1,7 +1,8 @@
 // The decision and the filters of one line of a luma or chroma segment (ITU-T H.265, 8.7.2.5).
 // A signed number of the standard is held with a bias, as a u32 that is 65536 more; all arithmetic is unsigned.
-// What a public function ensures is the standard's definition, over the integers. What a private one ensures is an
-// expression of naturals, which the prover checks by itself; the proofs of the public ones carry the one to the other.
+// What a public function ensures is the standard's definition, over the integers, or that of C-20's counts. What a
+// private one of the filters ensures is an expression of naturals, which the prover checks by itself; the proofs of the
+// public ones carry the one to the other.
 mod chroma;
 mod counts;
 mod decision;

@@ -7,8 +7,8 @@ use lib.ListN.{getD}
 use Rattle.filter.specs.declared.LumaFilter.{LumaFilter}
 use Rattle.filter.specs.Answer.{lumaOf}
 use Rattle.filter.specs.Kernel.{lineOf, samplesOf, kernel}
-use Rattle.lines.specs.declared.LumaAnswer.{LumaAnswer}
 use Rattle.lines.specs.declared.Line.{Line}
+use Rattle.lines.specs.declared.LumaAnswer.{LumaAnswer}
 use Rattle.lines.specs.declared.LumaDecision.{LumaDecision}
 use Rattle.lines.specs.declared.LumaDecision.the-variants.{Skip, Strong, Weak}
 use Rattle.lines.specs.Answer.{valuesOf}

@@ -6,8 +6,8 @@ use mathlib.Core.List.{List}
 use lib.ListN.{getD}
 use Rattle.filter.specs.declared.LumaFilter.{LumaFilter}
 use Rattle.filter.specs.Kernel.{lineOf, samplesOf}
-use Rattle.lines.specs.declared.LumaAnswer.{LumaAnswer}
 use Rattle.lines.specs.declared.Line.{Line}
+use Rattle.lines.specs.declared.LumaAnswer.{LumaAnswer}
 use Rattle.lines.specs.Answer.{answerOf}
 use Rattle.lines.specs.Decision.{Decision, decision}
 use Rattle.lines.specs.Luma.{lumaLine}

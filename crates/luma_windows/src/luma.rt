@@ -32,10 +32,10 @@ pub fn horizontal_luma(s: &mut [u16], base: usize, across: usize, t: LumaFilter)
     ensures { λ _. ⌜ Filtered 4 (kernel (lumaOf t)) base across 1 (given s) (left s) ⌝ }
     ensures { λ r. ⌜ r ≡ answerAt t (windowAt (given s) base across 1) ⌝ }
 {
-    let d = decide(s, base, across, 1, t);
-    let decision = d.decision;
+    let answer = decide(s, base, across, 1, t);
+    let decision = answer.decision;
     filter_rows(s, base, across, decision, t);
-    d
+    answer
 }
 
 // At a vertical edge; `along` is the stride along it. Lines that are left alone are not turned.
@@ -45,11 +45,11 @@ pub fn vertical_luma(s: &mut [u16], base: usize, along: usize, t: LumaFilter) ->
     ensures { λ _. ⌜ Filtered 4 (kernel (lumaOf t)) base 1 along (given s) (left s) ⌝ }
     ensures { λ r. ⌜ r ≡ answerAt t (windowAt (given s) base 1 along) ⌝ }
 {
-    let d = decide(s, base, 1, along, t);
-    let decision = d.decision;
+    let answer = decide(s, base, 1, along, t);
+    let decision = answer.decision;
     if let LumaDecision::Skip = decision {
-        return d;
+        return answer;
     }
     filter_turned(s, base, along, decision, t);
-    d
+    answer
 }

@@ -8,14 +8,14 @@ use Rattle.bench_lines.proofs.put_first.Statement.{statement}
 use Rattle.bench_lines.proofs.put_first.Tie as tie
 
 -- back from the numbers to the word
-abbrev word : tie.After-put-counts-arg → tie.After-put-word
+abbrev word : tie.After-put-numbers-arg → tie.After-put-word
 word c = c .before .before .before
 
 returns : tie.Need-returns
 unfolding firstText
 returns c =
     let numbers = c .before .before in
-    (appended-then (word (numbers .before) .put-word .ensures .0) (numbers .put-counts .ensures .0), omega arith)
+    (appended-then (word (numbers .before) .put-word .ensures .0) (numbers .put-numbers .ensures .0), omega arith)
 
 pub put-first-spec : {M : Type 1} → statement M
 put-first-spec = tie.close (tie.spec (λ c κs. search needs) (λ c κs. search needs) (λ c. search needs) returns)

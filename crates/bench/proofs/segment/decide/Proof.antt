@@ -10,7 +10,9 @@ use Rattle.bench.proofs.segment.decide.Tie as tie
 
 returns : tie.Need-returns
 unfolding decisionOrSkip caseOf sideCount
-returns c = simp (eq-eqb _ _ (c .before .if1 .taken)) (c .with-counts .ensures)
+returns c =
+    let skip = c .with-counts .ensures in
+    simp (eq-eqb _ _ (c .before .if1 .taken)) (λ i. record { decision = skip .0 i; counts = skip .1 i })
 
 returns-2 : tie.Need-returns-2
 unfolding decisionOrSkip

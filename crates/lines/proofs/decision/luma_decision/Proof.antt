@@ -1,7 +1,6 @@
 -- `luma_decision` meets its contract: at each `return` the tests that led there say which case the decision is.
 -- Assumes nothing.
 use mathlib.Core.Logic.{⊎-elim}
-use mathlib.Core.Path.{_∙_}
 use borrow.Author.Needs.{needs}
 use Rattle.lines.proofs.Answer.{decision-answered}
 use Rattle.lines.proofs.Decided.{Activities, decided-skip, decided-weak0, decided-weak3, decided-strong}
@@ -29,8 +28,8 @@ activities c =
 returns : tie.Need-returns
 returns c =
     let skip = c .before in
-    c .with-counts .ensures
-    ∙ decision-answered _ _ _ _ (decided-skip _ _ (activities (skip .before)) (skip .if1 .taken))
+    decision-answered _ _ _ _ (decided-skip _ _ (activities (skip .before)) (skip .if1 .taken))
+    (c .with-counts .ensures .0) (c .with-counts .ensures .1)
 
 returns-2 : tie.Need-returns-2
 returns-2 c =
@@ -38,23 +37,23 @@ returns-2 c =
     let line3 = strong .before in
     let line0 = line3 .before .before in
     let below = line0 .before in
-    c .with-counts2 .ensures
-    ∙ decision-answered _ _ _ _
+    decision-answered _ _ _ _
     (decided-strong _ _ (activities (below .before)) (below .if1 .left) (line0 .d-sam .ensures)
     (line3 .before .if2 .taken) (line3 .d-sam2 .ensures) (strong .if3 .taken))
+    (c .with-counts2 .ensures .0) (c .with-counts2 .ensures .1)
 
 returns-3 : tie.Need-returns-3
 returns-3 c =
     let weak = c .before in
     let line0 = weak .before in
     let below = line0 .before in
-    c .with-counts3 .ensures
-    ∙ decision-answered _ _ _ _
+    decision-answered _ _ _ _
     (⊎-elim
     (λ w. decided-weak3 _ _ (activities (below .before)) (below .if1 .left) (line0 .d-sam .ensures) (w .0 .taken)
     (w .1 .ensures) (w .2 .left))
     (λ w. decided-weak0 _ _ (activities (below .before)) (below .if1 .left) (line0 .d-sam .ensures) (w .left))
     (weak .if2 .came))
+    (c .with-counts3 .ensures .0) (c .with-counts3 .ensures .1)
 
 pub luma-decision-spec : {M : Type 1} → statement M
 luma-decision-spec =

@@ -1,12 +1,12 @@
--- `put_counts` meets its contract: the texts of its three calls, one after another.
+-- `put_numbers` meets its contract: the texts of its three calls, one after another.
 -- Assumes nothing.
 use mathlib.Core.List.{append-assoc}
 use native.Mathlib.Omega.{arith}
 use borrow.Author.Needs.{needs}
 use Rattle.text.proofs.Append.{appended-then}
-use Rattle.bench_lines.specs.Lines.{countsText}
-use Rattle.bench_lines.proofs.put_counts.Statement.{statement}
-use Rattle.bench_lines.proofs.put_counts.Tie as tie
+use Rattle.bench_lines.specs.Lines.{numbersText}
+use Rattle.bench_lines.proofs.put_numbers.Statement.{statement}
+use Rattle.bench_lines.proofs.put_numbers.Tie as tie
 
 -- back from each count to the number before
 abbrev tc : tie.After-put-number-then-arg2 → tie.After-put-number-then
@@ -16,7 +16,7 @@ abbrev count-p : tie.After-put-number-then-arg3 → tie.After-put-number-then2
 count-p c = c .before .before .before
 
 returns : tie.Need-returns
-unfolding countsText
+unfolding numbersText
 returns c =
     let q = c .before .before in
     let p = count-p (q .before) in
@@ -27,8 +27,8 @@ returns c =
       omega arith,
     )
 
-pub put-counts-spec : {M : Type 1} → statement M
-put-counts-spec =
+pub put-numbers-spec : {M : Type 1} → statement M
+put-numbers-spec =
     tie.close
     (tie.spec
     (λ c. search needs)
