@@ -64,7 +64,7 @@ WINDOWS = [
     Edit("luma_windows/rows", "l3: weak(t, p, q, w.l3)", "l3: weak(t, q, p, w.l3)"),
     Edit("window_lines/line", "take_line(s, base + 2 * along, across)", "take_line(s, base + along, across)"),
     Edit("luma_windows/turned", "take_line(t, j, 4)", "take_line(t, 3 - j, 4)"),
-    Edit("luma_windows/luma", "if let LumaDecision::Skip = decision {", "if let LumaDecision::Strong = decision {"),
+    Edit("luma_windows/luma", "if let LumaDecision::Skip = d {", "if let LumaDecision::Strong = d {"),
     Edit("chroma_windows/chroma", "at + across, a.p0, b.p0, c.p0, d.p0)", "at + across, a.p0, c.p0, b.p0, d.p0)"),
     Edit("chroma_windows/chroma", "let at = base + 2 * across;", "let at = base + 1 * across;"),
     Edit("chroma_windows/chroma", "put_pair(s, at + 1, l.p0, l.q0)", "put_pair(s, at + 1, l.p0, l.q1)"),
@@ -223,7 +223,7 @@ MISTAKES = [
         Direction::Vertical,
 """),
     Edit("segments/between", "if !v.same {", "let q = v.q;\n    if !v.same || q.flags / 4 % 2 == 1 {"),
-    Edit("luma_windows/luma", "filter_turned(s, base, along, decision, t);", """for j in 0..4 {
+    Edit("luma_windows/luma", "filter_turned(s, base, along, d, t);", """for j in 0..4 {
         let at = base + j * along;
         let l = take_line(s, at, 1);
         window_lines::put_line(s, at, 1, lines::luma_line(luma_decision(t.beta, t.tc, l, l).decision, t.largest, t.tc, l));

@@ -8,7 +8,6 @@ use Rattle.filter.specs.declared.LumaFilter.{LumaFilter}
 use Rattle.filter.specs.Answer.{lumaOf}
 use Rattle.filter.specs.Kernel.{lineOf, samplesOf, kernel}
 use Rattle.lines.specs.declared.Line.{Line}
-use Rattle.lines.specs.declared.LumaAnswer.{LumaAnswer}
 use Rattle.lines.specs.declared.LumaDecision.{LumaDecision}
 use Rattle.lines.specs.declared.LumaDecision.the-variants.{Skip, Strong, Weak}
 use Rattle.lines.specs.Answer.{valuesOf}
@@ -21,7 +20,7 @@ use Rattle.planes.specs.Window.{windowAt, Filtered}
 use Rattle.planes.proofs.Windows.{filtered-as, filtered-same}
 use Rattle.window_lines.specs.declared.Lines.{Lines}
 use Rattle.window_lines.specs.Line.{linesOf, laid}
-use Rattle.luma_windows.specs.Decided.{each, answerAt, decidedBy}
+use Rattle.luma_windows.specs.Decided.{each, decisionAt, decidedBy}
 use Rattle.window_lines.proofs.InList.{sample-of}
 
 -- ---- four lines that were read, each filtered, and laid back
@@ -71,17 +70,16 @@ decided-as t base across along {xs = xs} {ys} same =
 
 -- ---- the decision is that of lines 0 and 3, and the enum loses nothing of it
 
-pub kernel-decided : (t : LumaFilter) (base across along : ℕ) {d : LumaAnswer} {xs ys : List ℕ}
-    → d ≡ answerAt t (windowAt xs base across along)
-    → Filtered 4 (decidedBy (valuesOf (d .decision)) t) base across along xs ys
+pub kernel-decided : (t : LumaFilter) (base across along : ℕ) {d : LumaDecision} {xs ys : List ℕ}
+    → d ≡ decisionAt t (windowAt xs base across along)
+    → Filtered 4 (decidedBy (valuesOf d) t) base across along xs ys
     → Filtered 4 (kernel (lumaOf t)) base across along xs ys
 unfolding decidedBy kernel
 kernel-decided t base across along {d} {xs} {ys} made =
     let W : Plane = windowAt xs base across along in
     let D : Decision = decision (t .beta) (t .tc) (lineOf W 0) (lineOf W 3) in
-    let by : Decision → Line → Line = λ e. lumaLine e (t .largest) (t .tc) in
     filtered-as 4 _ _ base across along xs ys
     (λ i j hi hj.
-    ap (λ (a : LumaAnswer). getD (samplesOf (by (valuesOf (a .decision)) (lineOf W j))) i 0) made
+    ap (λ (c : LumaDecision). getD (samplesOf (lumaLine (valuesOf c) (t .largest) (t .tc) (lineOf W j))) i 0) made
     ∙ ap (λ (r : Line). getD (samplesOf r) i 0)
     (case-filters D (t .largest) (t .tc) (lineOf W j) (decision-known (t .beta) (t .tc) (lineOf W 0) (lineOf W 3))))

@@ -8,7 +8,8 @@ use Rattle.filter.specs.declared.LumaFilter.{LumaFilter}
 use Rattle.filter.specs.Kernel.{lineOf, samplesOf}
 use Rattle.lines.specs.declared.Line.{Line}
 use Rattle.lines.specs.declared.LumaAnswer.{LumaAnswer}
-use Rattle.lines.specs.Answer.{answerOf}
+use Rattle.lines.specs.declared.LumaDecision.{LumaDecision}
+use Rattle.lines.specs.Answer.{caseOf, answerOf}
 use Rattle.lines.specs.Decision.{Decision, decision}
 use Rattle.lines.specs.Luma.{lumaLine}
 use Rattle.picture.specs.Plane.{Plane}
@@ -18,7 +19,11 @@ use Rattle.window_lines.specs.declared.Lines.{Lines}
 abbrev pub each : (Line → Line) → Lines → Lines
 each f w = record { l0 = f (w .l0); l1 = f (w .l1); l2 = f (w .l2); l3 = f (w .l3) }
 
--- the decision and its counts, from lines 0 and 3
+-- the decision, from lines 0 and 3
+abbrev pub decisionAt : LumaFilter → Plane → LumaDecision
+decisionAt t W = caseOf (decision (t .beta) (t .tc) (lineOf W 0) (lineOf W 3))
+
+-- the same decision with its counts
 abbrev pub answerAt : LumaFilter → Plane → LumaAnswer
 answerAt t W = answerOf (decision (t .beta) (t .tc) (lineOf W 0) (lineOf W 3))
 

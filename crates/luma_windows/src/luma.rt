@@ -6,6 +6,7 @@ use filter::LumaFilter;
 use lines::LumaAnswer;
 use lines::LumaDecision;
 use lines::luma_decision;
+use lines::with_counts;
 use window_lines::take_line;
 ghost use mathlib.Core.Path.{_≡_};
 ghost use Prim.Native.Nat.{_+_, _*_, _<_};
@@ -14,15 +15,18 @@ ghost use Rattle.filter.specs.Answer.{lumaOf};
 ghost use Rattle.filter.specs.Kernel.{kernel};
 ghost use Rattle.picture.specs.Lent.{given, left};
 ghost use Rattle.planes.specs.Window.{Filtered, Strides, windowAt};
-ghost use Rattle.luma_windows.specs.Decided.{answerAt};
+ghost use Rattle.luma_windows.specs.Decided.{answerAt, decisionAt};
 
-fn decide(s: &[u16], base: usize, across: usize, along: usize, t: LumaFilter) -> LumaAnswer
+// The decision alone. Its counts are added where it is answered: a pass does not ask for them, and the compiler sees
+// that there, so that they cost it nothing.
+fn decide(s: &[u16], base: usize, across: usize, along: usize, t: LumaFilter) -> LumaDecision
     requires { ⌜ base + 3 * along + 7 * across < length (now s) ⌝ }
-    ensures { λ r. ⌜ r ≡ answerAt t (windowAt (given s) base across along) ⌝ }
+    ensures { λ r. ⌜ r ≡ decisionAt t (windowAt (given s) base across along) ⌝ }
 {
     let l0 = take_line(s, base, across);
     let l3 = take_line(s, base + 3 * along, across);
-    luma_decision(t.beta, t.tc, l0, l3)
+    let answer = luma_decision(t.beta, t.tc, l0, l3);
+    answer.decision
 }
 
 // At a horizontal edge; `across` is the stride across it.
@@ -32,10 +36,9 @@ pub fn horizontal_luma(s: &mut [u16], base: usize, across: usize, t: LumaFilter)
     ensures { λ _. ⌜ Filtered 4 (kernel (lumaOf t)) base across 1 (given s) (left s) ⌝ }
     ensures { λ r. ⌜ r ≡ answerAt t (windowAt (given s) base across 1) ⌝ }
 {
-    let answer = decide(s, base, across, 1, t);
-    let decision = answer.decision;
-    filter_rows(s, base, across, decision, t);
-    answer
+    let d = decide(s, base, across, 1, t);
+    filter_rows(s, base, across, d, t);
+    with_counts(d)
 }
 
 // At a vertical edge; `along` is the stride along it. Lines that are left alone are not turned.
@@ -45,11 +48,10 @@ pub fn vertical_luma(s: &mut [u16], base: usize, along: usize, t: LumaFilter) ->
     ensures { λ _. ⌜ Filtered 4 (kernel (lumaOf t)) base 1 along (given s) (left s) ⌝ }
     ensures { λ r. ⌜ r ≡ answerAt t (windowAt (given s) base 1 along) ⌝ }
 {
-    let answer = decide(s, base, 1, along, t);
-    let decision = answer.decision;
-    if let LumaDecision::Skip = decision {
-        return answer;
+    let d = decide(s, base, 1, along, t);
+    if let LumaDecision::Skip = d {
+        return with_counts(d);
     }
-    filter_turned(s, base, along, decision, t);
-    answer
+    filter_turned(s, base, along, d, t);
+    with_counts(d)
 }
