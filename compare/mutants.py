@@ -63,7 +63,7 @@ def difference(*command, **environment):
     found = [line for line in printed.splitlines() if line.startswith("DIFFERENCE")]
     if not found:
         sys.exit(f"the comparison failed with status {running.returncode}: {complained.strip()[-200:]}")
-    return found[0].removeprefix("DIFFERENCE").removeprefix(": ").strip()
+    return found[0].split(": ", 1)[-1].removeprefix("DIFFERENCE ")
 
 
 def compare_stage(library, *words):
