@@ -8,19 +8,20 @@ use Rattle.filter.specs.declared.LumaFilter.{LumaFilter}
 use Rattle.filter.specs.Answer.{lumaOf}
 use Rattle.filter.specs.Kernel.{lineOf, samplesOf, kernel}
 use Rattle.lines.specs.declared.Line.{Line}
+use Rattle.lines.specs.declared.LumaAnswer.{LumaAnswer}
 use Rattle.lines.specs.declared.LumaDecision.{LumaDecision}
 use Rattle.lines.specs.declared.LumaDecision.the-variants.{Skip, Strong, Weak}
 use Rattle.lines.specs.Answer.{valuesOf}
-use Rattle.lines.specs.Decision.{Decision, decision}
+use Rattle.lines.specs.Decision.{Decision, decision, countsOf}
 use Rattle.lines.specs.Luma.{strongLine, weakLine, lumaLine}
-use Rattle.lines.proofs.Answer.{case-filters, decision-known}
+use Rattle.lines.proofs.Answer.{case-filters, decision-known, decision-answered}
 use Rattle.picture.specs.Plane.{Plane}
 use Rattle.picture.proofs.Index.{cases4}
 use Rattle.planes.specs.Window.{windowAt, Filtered}
 use Rattle.planes.proofs.Windows.{filtered-as, filtered-same}
 use Rattle.window_lines.specs.declared.Lines.{Lines}
 use Rattle.window_lines.specs.Line.{linesOf, laid}
-use Rattle.luma_windows.specs.Decided.{each, decisionAt, decidedBy}
+use Rattle.luma_windows.specs.Decided.{each, decisionAt, answerAt, decidedBy}
 use Rattle.window_lines.proofs.InList.{sample-of}
 
 -- ---- four lines that were read, each filtered, and laid back
@@ -70,7 +71,7 @@ decided-as t base across along {xs = xs} {ys} same =
 
 -- ---- the decision is that of lines 0 and 3, and the enum loses nothing of it
 
-pub kernel-decided : (t : LumaFilter) (base across along : ℕ) {d : LumaDecision} {xs ys : List ℕ}
+kernel-decided : (t : LumaFilter) (base across along : ℕ) {d : LumaDecision} {xs ys : List ℕ}
     → d ≡ decisionAt t (windowAt xs base across along)
     → Filtered 4 (decidedBy (valuesOf d) t) base across along xs ys
     → Filtered 4 (kernel (lumaOf t)) base across along xs ys
@@ -83,3 +84,12 @@ kernel-decided t base across along {d} {xs} {ys} made =
     ap (λ (c : LumaDecision). getD (samplesOf (lumaLine (valuesOf c) (t .largest) (t .tc) (lineOf W j))) i 0) made
     ∙ ap (λ (r : Line). getD (samplesOf r) i 0)
     (case-filters D (t .largest) (t .tc) (lineOf W j) (decision-known (t .beta) (t .tc) (lineOf W 0) (lineOf W 3))))
+
+-- a window that was filtered by its decision, and what is answered of that: the decision with its counts
+pub window-answered : (t : LumaFilter) (base across along : ℕ) {d : LumaDecision} {r : LumaAnswer} {xs ys : List ℕ}
+    → d ≡ decisionAt t (windowAt xs base across along)
+    → Filtered 4 (decidedBy (valuesOf d) t) base across along xs ys
+    → (r .decision ≡ d) × (r .counts ≡ countsOf (valuesOf d))
+    → Filtered 4 (kernel (lumaOf t)) base across along xs ys × (r ≡ answerAt t (windowAt xs base across along))
+window-answered t base across along made filtered answer =
+    (kernel-decided t base across along made filtered, decision-answered _ _ _ _ made (answer .0) (answer .1))

@@ -2,8 +2,7 @@
 -- alone are as they were.
 -- Assumes nothing.
 use borrow.Author.Needs.{needs}
-use Rattle.lines.proofs.Answer.{decision-answered}
-use Rattle.luma_windows.proofs.Decided.{decided-as, kernel-decided, none-decided}
+use Rattle.luma_windows.proofs.Decided.{decided-as, none-decided, window-answered}
 use Rattle.luma_windows.proofs.luma.vertical_luma.Statement.{statement}
 use Rattle.luma_windows.proofs.luma.vertical_luma.Tie as tie
 
@@ -12,18 +11,15 @@ returns c =
     let skip = c .before in
     let decided = skip .before .before in
     let t = decided .before .before .before .args .t in
-    let d = decided .decide .ensures in (
-      kernel-decided t _ _ _ d (decided-as t _ _ _ (skip .enum-told .given .1) (none-decided t _ _ _ _)),
-      decision-answered _ _ _ _ d (c .with-counts .ensures .0) (c .with-counts .ensures .1),
-    )
+    window-answered t _ _ _ (decided .decide .ensures)
+    (decided-as t _ _ _ (skip .enum-told .given .1) (none-decided t _ _ _ _))
+    (c .with-counts .ensures)
 
 returns-2 : tie.Need-returns-2
 returns-2 c =
     let filtered = c .before .before .before in
-    let d = filtered .before .before .before .decide .ensures in (
-      kernel-decided _ _ _ _ d (filtered .filter-turned .ensures),
-      decision-answered _ _ _ _ d (c .with-counts2 .ensures .0) (c .with-counts2 .ensures .1),
-    )
+    let decided = filtered .before .before .before in
+    window-answered _ _ _ _ (decided .decide .ensures) (filtered .filter-turned .ensures) (c .with-counts2 .ensures)
 
 pub vertical-luma-spec : {M : Type 1} → statement M
 vertical-luma-spec =
