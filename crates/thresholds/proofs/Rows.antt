@@ -17,7 +17,7 @@ use Rattle.thresholds.specs.Code.{packed, wordOf}
 
 -- ---- a test of a row's number and value that every row passes, by computation
 
-abbrev each : (ℕ → ℕ → Bool) → ℕ → List ℕ → Bool
+abbrev pub each : (ℕ → ℕ → Bool) → ℕ → List ℕ → Bool
 each test n [] = true
 each test n (x ∷ l) = cond (test n x) (each test (n + 1) l) false
 
@@ -32,13 +32,13 @@ from test n (x ∷ l) e zero h = ap (λ (m : ℕ). test m x) (omega arith) ∙ b
 from test n (x ∷ l) e (suc k) h =
     ap (λ (m : ℕ). test m (getD l k 0)) (omega arith) ∙ from test (n + 1) l (both (test n x) _ e .1) k (omega arith)
 
-passes : (test : ℕ → ℕ → Bool) (l : List ℕ) → each test 0 l ≡ true
+pub passes : (test : ℕ → ℕ → Bool) (l : List ℕ) → each test 0 l ≡ true
     → (k : ℕ) → k < length l → test k (getD l k 0) ≡ true
 passes test l e k h = ap (λ (m : ℕ). test m (getD l k 0)) (sym (zero-add k)) ∙ from test 0 l e k h
 
 -- ---- rows by a formula
 
-abbrev agrees : (ℕ → ℕ) → ℕ → ℕ → Bool
+abbrev pub agrees : (ℕ → ℕ) → ℕ → ℕ → Bool
 agrees f k x = eqb x (f k)
 
 abbrev betaAt : ℕ → ℕ

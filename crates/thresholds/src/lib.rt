@@ -3,6 +3,7 @@
 // below a table's first row is a truncated subtraction, and no number here is ever negative.
 mod chroma;
 mod luma;
+mod luma_table;
 mod tables;
 
 pub use chroma::chroma_tc;
@@ -10,3 +11,4 @@ pub use chroma::qpc;
 pub use luma::average_qp;
 pub use luma::luma_beta;
 pub use luma::luma_tc;
+pub use luma_table::luma_tc_table;

@@ -1,0 +1,54 @@
+#!/usr/bin/env python3
+"""The table of the luma tc, document 02's C-18: 1,352 numbers, as a constant array of the code.
+
+    luma_table.py          writes crates/thresholds/src/luma_table.rt
+    luma_table.py --check  says whether that file is what it would write
+
+An entry is document 01's tc at depth 8: the row of TC at QP + 2 * (bS - 1) + 2 * (tc div2), held to 0..53. The
+entries go by average QP, then by bS, then by tc div2; beside each stand the three.
+"""
+
+import sys
+
+sys.dont_write_bytecode = True
+
+from bench_model import TC_TABLE, clip3
+from stored import is_checking, store
+
+FILE = "crates/thresholds/src/luma_table.rt"
+
+HEAD = """\
+// The luma tc at depth 8, for average QP 0 to 51, bS 1 and 2, tc div2 -6 to 6 (document 02, C-18). The entries go by
+// average QP, then by bS, then by tc div2. Made by oracle/luma_table.py; proved to be the table, entry for entry.
+ghost use Rattle.thresholds.specs.LumaTable.{TcTable};
+
+const LUMA_TC: [u8; 1352] = [
+"""
+
+TAIL = """\
+];
+
+// The array is laid out where this is called: once for a picture, which lends it to all that look into it.
+pub fn luma_tc_table() -> [u8; 1352]
+    ensures { λ r. ⌜ TcTable r ⌝ }
+{
+    LUMA_TC
+}
+"""
+
+
+def entries():
+    for average in range(52):
+        for bs in (1, 2):
+            for div2 in range(-6, 7):
+                tc = TC_TABLE[clip3(0, 53, average + 2 * (bs - 1) + 2 * div2)]
+                yield f"    {tc}, // QP {average}, bS {bs}, div2 {div2}\n"
+
+
+def main():
+    lines = list(entries())
+    assert len(lines) == 1352
+    store({FILE: (HEAD + "".join(lines) + TAIL).encode()}, is_checking(__doc__))
+
+
+main()
