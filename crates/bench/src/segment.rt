@@ -5,7 +5,8 @@ ghost use lib.ListN.{length};
 ghost use Rattle.text.specs.Text.{Puts};
 ghost use Rattle.lines.specs.Answer.{valuesOf, answerOf};
 ghost use Rattle.lines.specs.Luma.{lumaLine};
-ghost use Rattle.bench_record.specs.Refusal.{refusalOf};
+ghost use Rattle.bench_record.specs.Refusal.{InRange, refusalOf};
+ghost use Rattle.thresholds.specs.LumaTable.{TcTable};
 ghost use Rattle.bench.specs.Bench.{segmentText};
 ghost use Rattle.bench.specs.Code.{tcOrZero, thresholdsOf, decisionOrSkip};
 use bench_lines::put_first;
@@ -24,26 +25,30 @@ pub(crate) struct Thresholds {
 }
 
 // tc, and 0 where bS is 0
-fn tc_of(depth: u32, average: u8, bs: u8, offset: u8) -> u16
+fn tc_of(tcs: &[u8; 1352], depth: u32, average: u8, bs: u8, offset: u8) -> u16
+    requires { ⌜ TcTable (now tcs) ⌝ }
     requires { ⌜ (8 ≤ depth) × (depth ≤ 16) ⌝ }
+    requires { ⌜ (average ≤ 115) × (bs ≤ 2) × (offset ≤ 12) ⌝ }
     ensures { λ r. ⌜ r ≡ tcOrZero depth average bs offset ⌝ }
 {
     if bs == 0 {
         0
     } else {
-        thresholds::luma_tc(depth, average, bs, offset)
+        thresholds::luma_tc(tcs, depth, average, bs, offset)
     }
 }
 
+// The table is laid out for each record: beside the reading of one it costs nothing that shows.
 fn thresholds_of(h: Head) -> Thresholds
-    requires { ⌜ (8 ≤ h .depth) × (h .depth ≤ 16) ⌝ }
+    requires { ⌜ InRange h ⌝ }
     ensures { λ r. ⌜ r ≡ thresholdsOf h ⌝ }
 {
+    let tcs = thresholds::luma_tc_table();
     let depth = h.depth as u32;
     let average = thresholds::average_qp(h.qpp, h.qpq);
     Thresholds {
         beta: thresholds::luma_beta(depth, average, h.beta),
-        tc: tc_of(depth, average, h.bs, h.tc),
+        tc: tc_of(&tcs, depth, average, h.bs, h.tc),
         largest: ints::largest_at(depth),
     }
 }

@@ -1,6 +1,6 @@
 -- The number of a refusal, check by check; and what a record that is not refused has.
 -- Assumes nothing.
-use Prim.Native.Nat.{ℕ, _≤_}
+use Prim.Native.Nat.{ℕ, _≤_, _<_}
 use mathlib.Core.Path.{_≡_, refl, _∙_, ap}
 use mathlib.Core.Bool.{Bool, true, false, cond, _||_}
 use mathlib.Core.List.{List}
@@ -10,7 +10,7 @@ use borrow.Author.Tests.{ltb-false}
 use Rattle.ints.specs.Sample.{largestAt}
 use Rattle.bench_record.specs.declared.fields.Head.{Head}
 use Rattle.bench_record.specs.Record.{headOf}
-use Rattle.bench_record.specs.Refusal.{depthBad, offsetsBad, othersBad, samplesAbove, refusalOf}
+use Rattle.bench_record.specs.Refusal.{depthBad, offsetsBad, qpBad, othersBad, samplesAbove, refusalOf, InRange}
 
 -- the answer after the check of the depth, of the offsets and of the other bytes
 abbrev pub afterOthers : Head → List ℕ → ℕ
@@ -46,11 +46,40 @@ depth-good d e =
     let f = neither (ltb d 8) (ltb 16 d) e in
     (ltb-false _ _ (f .0), ltb-false _ _ (f .1))
 
-first-passed : (t : Bool) (n : ℕ) → cond t 3 n ≡ 0 → t ≡ false
-first-passed true n e = absurd (omega arith)
-first-passed false n e = refl
+qp-good : (d n : ℕ) → qpBad d n ≡ false → n ≤ 115
+qp-good d n e = ltb-false _ _ (neither (ltb n _) (ltb 115 n) e .1)
 
--- a record that is not refused has a depth in range
-pub depth-accepted : (r : List ℕ) → refusalOf r ≡ 0 → (8 ≤ headOf r .depth) × (headOf r .depth ≤ 16)
+others-good : (h : Head) → othersBad h ≡ false → (h .bs ≤ 2) × (h .qpp ≤ 115) × (h .qpq ≤ 115)
+unfolding othersBad
+others-good h e =
+    let all = neither _ (ltb 0 (h .zero7)) e .0 in
+    let three = neither _ (ltb 0 (h .zero6)) all .0 in
+    let qpq = neither _ (qpBad (h .depth) (h .qpq)) three in
+    let qpp = neither (ltb 2 (h .bs)) (qpBad (h .depth) (h .qpp)) (qpq .0) in
+    (ltb-false _ _ (qpp .0), qp-good (h .depth) (h .qpp) (qpp .1), qp-good (h .depth) (h .qpq) (qpq .1))
+
+-- a check that does not apply, where the answer is 0
+passed : (t : Bool) (k m : ℕ) → 0 < k → cond t k m ≡ 0 → (t ≡ false) × (m ≡ 0)
+passed true k m h e = absurd (omega arith)
+passed false k m h e = (refl, e)
+
+-- a record that is not refused is in range
+pub accepted : (r : List ℕ) → refusalOf r ≡ 0 → InRange (headOf r)
 unfolding refusalOf
-depth-accepted r e = depth-good _ (first-passed (depthBad (headOf r .depth)) _ e)
+accepted r e =
+    let h : Head = headOf r in
+    let first = passed (depthBad (h .depth)) 3 (afterDepth h r) (omega arith) e in
+    let second = passed (offsetsBad (h .beta) (h .tc)) 7 (afterOffsets h r) (omega arith) (first .1) in
+    let third = passed (othersBad h) 9 (afterOthers h r) (omega arith) (second .1) in
+    let depth = depth-good (h .depth) (first .0) in
+    let offsets = neither (ltb 12 (h .beta)) (ltb 12 (h .tc)) (second .0) in
+    let others = others-good h (third .0) in
+    record {
+      depth-least = depth .0;
+      depth-most = depth .1;
+      bs-most = others .0;
+      qpp-most = others .1;
+      qpq-most = others .2;
+      beta-most = ltb-false _ _ (offsets .0);
+      tc-most = ltb-false _ _ (offsets .1);
+    }

@@ -1,6 +1,6 @@
 -- Document 01, 'Segment bench': "A bad record prints only `refused N`: 3 depth, 7 offsets, 9 the other bytes, 10
 -- sample, in that order." The ranges are those of 'What a sheet consists of'.
-use Prim.Native.Nat.{ℕ, _+_, _*_, _-_}
+use Prim.Native.Nat.{ℕ, _+_, _*_, _-_, _≤_}
 use mathlib.Core.Bool.{Bool, cond, _||_}
 use mathlib.Core.List.{List}
 use lib.Dec.{ltb}
@@ -54,3 +54,13 @@ refusalOf r =
     (cond (othersBad h) 9
     (cond (samplesAbove (largestAt (h .depth)) r) 10
     0)))
+
+-- what the head of a record that is not refused has
+pub record InRange (h : Head) : Type 0 where
+  pub depth-least : 8 ≤ h .depth
+  pub depth-most : h .depth ≤ 16
+  pub bs-most : h .bs ≤ 2
+  pub qpp-most : h .qpp ≤ 115
+  pub qpq-most : h .qpq ≤ 115
+  pub beta-most : h .beta ≤ 12
+  pub tc-most : h .tc ≤ 12

@@ -13,6 +13,7 @@ use Rattle.filter.specs.declared.SliceGate.the-variants.{Closed, Open}
 use Rattle.filter.specs.Kernel.{Filter, luma, chroma}
 use Rattle.filter.specs.Segment.{slicesOpen}
 use Rattle.picture.specs.declared.Cell.{Cell}
+use Rattle.picture.specs.declared.Slice.{Slice}
 use Rattle.picture.specs.Slice.{sliceAt}
 
 -- open with Q's slice record, where the slices of P and Q let the segment be filtered
@@ -32,3 +33,11 @@ pub record Sound (k : Component) : Type 0 where
   pub depth-low : 8 ≤ k .depth
   pub depth-high : k .depth ≤ 16
   pub largest-is : k .largest ≡ largestAt (k .depth)
+
+-- what a segment of a picture that was checked has: where its bS is not 0 and its average QP not negative, the table of
+-- the luma tc has an entry for it
+pub record InTable (p q : Cell) (sliceQ : Slice) (bS : ℕ) : Type 0 where
+  pub qp-p : p .qp ≤ 115
+  pub qp-q : q .qp ≤ 115
+  pub bs-most : bS ≤ 2
+  pub tc-most : sliceQ .tc ≤ 12

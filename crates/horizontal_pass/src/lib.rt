@@ -21,12 +21,13 @@ fn horizontal_band(
     cells: &[u8],
     slices: &[u8],
     starts: &[u16],
+    tcs: &[u8; 1352],
     k: Component,
     f: Frame,
     row0: usize,
     row1: usize,
 )
-    requires { ⌜ Ready k f (now cells) (now slices) ⌝ }
+    requires { ⌜ Ready k f (now cells) (now slices) (now tcs) ⌝ }
     requires { ⌜ (length (now s) ≡ (row1 - row0) * f .columns) × (row0 ≤ row1) × (row1 ≤ f .rows) ⌝ }
     requires { ⌜ Seam (f .rows) row0 × Seam (f .rows) row1 ⌝ }
     ensures { λ _. ⌜ Rows (f .columns) row0 row1 (left s)
@@ -36,7 +37,7 @@ fn horizontal_band(
     while e < row1 {
         let a = (e - 4 - row0) * f.columns;
         let b = (e + 4 - row0) * f.columns;
-        horizontal_strip(&mut s[a..b], cells, slices, starts, k, f, e);
+        horizontal_strip(&mut s[a..b], cells, slices, starts, tcs, k, f, e);
         e += 8;
     }
 }
@@ -47,10 +48,11 @@ pub fn horizontal_pass(
     cells: &[u8],
     slices: &[u8],
     starts: &[u16],
+    tcs: &[u8; 1352],
     k: Component,
     f: Frame,
 )
-    requires { ⌜ Ready k f (now cells) (now slices) ⌝ }
+    requires { ⌜ Ready k f (now cells) (now slices) (now tcs) ⌝ }
     requires { ⌜ length (now s) ≡ f .rows * f .columns ⌝ }
     ensures { λ _. ⌜ Holds (f .columns) (f .rows) (left s)
         (passFor horizontal k f (given cells) (given slices) (given starts) (at (given s) (f .columns))) ⌝ }
@@ -60,7 +62,7 @@ pub fn horizontal_pass(
         let end = horiz_band_end(f.rows, f.band, r);
         let a = r * f.columns;
         let b = end * f.columns;
-        horizontal_band(&mut s[a..b], cells, slices, starts, k, f, r, end);
+        horizontal_band(&mut s[a..b], cells, slices, starts, tcs, k, f, r, end);
         r = end;
     }
 }

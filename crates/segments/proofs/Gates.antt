@@ -1,6 +1,6 @@
 -- The gate of a segment whose edge flag is set, test by test, and the filter of one that is open.
 use Prim.Native.Nat.{ℕ, _≤_, _<_}
-use mathlib.Core.Path.{_≡_, refl, sym, _∙_, ap, ap₂}
+use mathlib.Core.Path.{_≡_, refl, sym, _∙_, ap, ap₂, subst}
 use mathlib.Core.Bool.{Bool, true, false, cond, not, _&&_}
 use mathlib.Core.List.{List}
 use mathlib.Core.Option.{none, some}
@@ -12,7 +12,7 @@ use Rattle.filter.specs.declared.ChromaFilter.{ChromaFilter}
 use Rattle.filter.specs.declared.Component.{Component}
 use Rattle.filter.specs.declared.LumaFilter.{LumaFilter}
 use Rattle.filter.specs.declared.SliceGate.the-variants.{Closed, Open}
-use Rattle.filter.specs.Answer.{Sound, chromaOf, lumaOf, sliceGate}
+use Rattle.filter.specs.Answer.{InTable, Sound, chromaOf, lumaOf, sliceGate}
 use Rattle.filter.specs.Kernel.{Filter, luma, chroma, tcOf}
 use Rattle.filter.specs.Segment.{slicesOpen, lumaFilter, chromaFilter}
 use Rattle.picture.specs.declared.Cell.{Cell}
@@ -63,6 +63,25 @@ module _ (k : Component) (p q : Cell) (s : Slice) (bS : ℕ) where
 
 -- ---- the gate
 
+-- the least bS that is filtered is not 0
+pub least-some : (k : Component) → 1 ≤ leastFor k
+least-some k = go (k .luma)
+  where
+    go : (t : Bool) → 1 ≤ cond t 1 2
+    go true = omega arith
+    go false = omega arith
+
+told : (S s : Slice) (t : Bool) → cond t (Open S) Closed ≡ Open s → (t ≡ true) × (S ≡ s)
+told S s true e = (refl, cc)
+told S s false e = absurd (let z : _≡_ {A = ℕ} 0 1 = cc in omega arith)
+
+-- the slice of an open gate is Q's, so what is in range by that one is so by this
+pub open-in-table : (slices : List ℕ) (p q : Cell) (bS : ℕ) (s : Slice) → sliceGate slices p q ≡ Open s
+    → InTable p q (sliceAt slices (q .slice)) bS → InTable p q s bS
+unfolding sliceGate
+open-in-table slices p q bS s e h =
+    subst (λ (t : Slice). InTable p q t bS) (told _ s (slicesOpen p q (sliceAt slices (q .slice))) e .1) h
+
 module _ (k : Component) (slices : List ℕ) (v : Sides) (bS : ℕ) where
   abbrev S : Slice
   S = sliceAt slices (v .q .slice)
@@ -93,14 +112,10 @@ module _ (k : Component) (slices : List ℕ) (v : Sides) (bS : ℕ) where
       closed-slices e =
           by-tests true true false (le-leb _ _ strong) (not-false (v .same) one) (shut (slicesOpen (v .p) (v .q) S) e)
 
-      told : (s : Slice) (t : Bool) → cond t (Open S) Closed ≡ Open s → (t ≡ true) × (S ≡ s)
-      told s true e = (refl, cc)
-      told s false e = absurd (let z : _≡_ {A = ℕ} 0 1 = cc in omega arith)
-
       pub opened : (s : Slice) → sliceGate slices (v .p) (v .q) ≡ Open s
           → positive (filterFor k (v .p) (v .q) s bS) ≡ betweenFor k slices v bS
       unfolding sliceGate
       opened s e =
-          let z = told s (slicesOpen (v .p) (v .q) S) e in
+          let z = told S s (slicesOpen (v .p) (v .q) S) e in
           ap (λ (t : Slice). positive (filterFor k (v .p) (v .q) t bS)) (sym (z .1))
           ∙ by-tests true true true (le-leb _ _ strong) (not-false (v .same) one) (z .0)

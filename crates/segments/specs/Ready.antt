@@ -7,11 +7,12 @@ use Rattle.filter.specs.declared.Component.{Component}
 use Rattle.filter.specs.Answer.{Sound}
 use Rattle.picture.specs.Cell.{cellAt}
 use Rattle.picture.specs.Scale.{toLuma}
-use Rattle.picture.specs.Slice.{sliceCount}
+use Rattle.picture.specs.Slice.{sliceAt, sliceCount}
 use Rattle.segments.specs.declared.Frame.{Frame}
 use Rattle.segments.specs.Sides.{acrossFor, downFor}
+use Rattle.thresholds.specs.LumaTable.{TcTable}
 
-pub record Ready (k : Component) (f : Frame) (cells slices : List ℕ) : Type 0 where
+pub record Ready (k : Component) (f : Frame) (cells slices tcs : List ℕ) : Type 0 where
   pub sound : Sound k
   pub ctb : f .«log2_ctb» ≤ 6
   -- the plane's size, in its own samples, and the height of a band
@@ -29,3 +30,9 @@ pub record Ready (k : Component) (f : Frame) (cells slices : List ℕ) : Type 0 
   pub down : (y : ℕ) → y < f .rows → toLuma (downFor k) y < 4 * f .«cell_rows»
   pub cells-long : 8 * (f .«cell_rows» * f .«cell_columns» .0) ≤ length cells
   pub known : (n : ℕ) → n < f .«cell_rows» * f .«cell_columns» .0 → (cellAt cells n) .slice < sliceCount slices
+  -- the cells and the slices in range, and the table of the luma tc, which has an entry for all that is in range
+  pub qp-most : (n : ℕ) → n < f .«cell_rows» * f .«cell_columns» .0 → (cellAt cells n) .qp ≤ 115
+  pub bsv-most : (n : ℕ) → n < f .«cell_rows» * f .«cell_columns» .0 → (cellAt cells n) .bsv ≤ 2
+  pub bsh-most : (n : ℕ) → n < f .«cell_rows» * f .«cell_columns» .0 → (cellAt cells n) .bsh ≤ 2
+  pub tc-most : (n : ℕ) → n < sliceCount slices → (sliceAt slices n) .tc ≤ 12
+  pub tc-table : TcTable tcs

@@ -37,12 +37,13 @@ pub fn vertical_filter(
     cells: &[u8],
     slices: &[u8],
     starts: &[u16],
+    tcs: &[u8; 1352],
     k: Component,
     f: Frame,
     e: usize,
     l: usize,
 ) -> Segment
-    requires { ⌜ Ready k f (now cells) (now slices) ⌝ }
+    requires { ⌜ Ready k f (now cells) (now slices) (now tcs) ⌝ }
     requires { ⌜ (8 ≤ e) × (e < f .columns) × (l + 1 < f .rows) ⌝ }
     requires { ⌜ edgeFlag vertical (cellFor vertical k f (now cells) e l) ≡ true ⌝ }
     ensures { λ r. ⌜ optionOf (k .largest) r
@@ -52,7 +53,7 @@ pub fn vertical_filter(
     let y = luma_row_at(k, l + 1);
     let v = vertical_sides(cells, starts, f.log2_ctb, f.cell_columns, x, y);
     let q = v.q;
-    segment_filter(k, slices, v, q.bsv)
+    segment_filter(slices, tcs, k, v, q.bsv)
 }
 
 // The same of the horizontal edge at row e and the segment whose first column is l.
@@ -70,12 +71,13 @@ pub fn horizontal_filter(
     cells: &[u8],
     slices: &[u8],
     starts: &[u16],
+    tcs: &[u8; 1352],
     k: Component,
     f: Frame,
     e: usize,
     l: usize,
 ) -> Segment
-    requires { ⌜ Ready k f (now cells) (now slices) ⌝ }
+    requires { ⌜ Ready k f (now cells) (now slices) (now tcs) ⌝ }
     requires { ⌜ (8 ≤ e) × (e < f .rows) × (l + 1 < f .columns) ⌝ }
     requires { ⌜ edgeFlag horizontal (cellFor horizontal k f (now cells) e l) ≡ true ⌝ }
     ensures { λ r. ⌜ optionOf (k .largest) r
@@ -85,5 +87,5 @@ pub fn horizontal_filter(
     let y = luma_row_at(k, e);
     let v = horizontal_sides(cells, starts, f.log2_ctb, f.cell_columns, x, y);
     let q = v.q;
-    segment_filter(k, slices, v, q.bsh)
+    segment_filter(slices, tcs, k, v, q.bsh)
 }

@@ -10,11 +10,12 @@ use picture::Cell;
 use picture::Slice;
 ghost use mathlib.Core.Path.{_≡_};
 ghost use mathlib.Core.Bool.{cond};
-ghost use Prim.Native.Nat.{_<_};
-ghost use Rattle.filter.specs.Answer.{Sound};
+ghost use Prim.Native.Nat.{_≤_, _<_};
+ghost use Rattle.filter.specs.Answer.{InTable, Sound};
 ghost use Rattle.picture.specs.Lent.{given};
-ghost use Rattle.picture.specs.Slice.{sliceCount};
+ghost use Rattle.picture.specs.Slice.{sliceAt, sliceCount};
 ghost use Rattle.segments.specs.Between.{betweenFor, filterFor, optionOf, positive};
+ghost use Rattle.thresholds.specs.LumaTable.{TcTable};
 
 // The least bS that is filtered: 1 in luma, 2 in chroma.
 fn least_bs(luma: bool) -> u8
@@ -24,12 +25,14 @@ fn least_bs(luma: bool) -> u8
 }
 
 // The filter of a segment whose gate is open. tc 0 leaves it alone.
-fn open_filter(k: Component, p: Cell, q: Cell, s: Slice, bs: u8) -> Segment
+fn open_filter(tcs: &[u8; 1352], k: Component, p: Cell, q: Cell, s: Slice, bs: u8) -> Segment
     requires { ⌜ Sound k ⌝ }
+    requires { ⌜ TcTable (now tcs) ⌝ }
+    requires { ⌜ (1 ≤ bs) × InTable p q s bs ⌝ }
     ensures { λ r. ⌜ optionOf (k .largest) r ≡ positive (filterFor k p q s bs) ⌝ }
 {
     if k.luma {
-        let f = luma_filter(k, p, q, s, bs);
+        let f = luma_filter(tcs, k, p, q, s, bs);
         if f.tc == 0 {
             return Segment::Closed;
         }
@@ -46,9 +49,17 @@ fn open_filter(k: Component, p: Cell, q: Cell, s: Slice, bs: u8) -> Segment
 }
 
 // `bs` is the Q cell's for the edge's direction.
-pub(crate) fn segment_filter(k: Component, slices: &[u8], v: Sides, bs: u8) -> Segment
+pub(crate) fn segment_filter(
+    slices: &[u8],
+    tcs: &[u8; 1352],
+    k: Component,
+    v: Sides,
+    bs: u8,
+) -> Segment
     requires { ⌜ Sound k ⌝ }
+    requires { ⌜ TcTable (now tcs) ⌝ }
     requires { ⌜ v .q .slice < sliceCount (now slices) ⌝ }
+    requires { ⌜ InTable (v .p) (v .q) (sliceAt (now slices) (v .q .slice)) bs ⌝ }
     ensures { λ r. ⌜ optionOf (k .largest) r ≡ betweenFor k (given slices) v bs ⌝ }
 {
     if bs < least_bs(k.luma) {
@@ -59,6 +70,6 @@ pub(crate) fn segment_filter(k: Component, slices: &[u8], v: Sides, bs: u8) -> S
     }
     match slice_gate(slices, v.p, v.q) {
         SliceGate::Closed => Segment::Closed,
-        SliceGate::Open(s) => open_filter(k, v.p, v.q, s, bs),
+        SliceGate::Open(s) => open_filter(tcs, k, v.p, v.q, s, bs),
     }
 }

@@ -10,8 +10,9 @@ use lib.Dec.{eqb}
 use lib.ListN.{length}
 use Rattle.filter.specs.declared.Component as Code
 use Rattle.filter.specs.Answer.{Sound}
-use Rattle.picture.specs.Accepted.{Accepted, PictureOk}
-use Rattle.picture.specs.Cell.{cellAt}
+use Rattle.ints.proofs.Bounds.{most-out}
+use Rattle.picture.specs.Accepted.{Accepted, CellOk, PictureOk}
+use Rattle.picture.specs.Cell.{cellAt, cellByte}
 use Rattle.picture.specs.Picture.{Picture, Planes, Settings, planeOf}
 use Rattle.picture.specs.Scale.{
   Component,
@@ -30,7 +31,7 @@ use Rattle.picture.specs.Scale.{
   toLuma,
   cellOf,
 }
-use Rattle.picture.specs.Slice.{sliceCount}
+use Rattle.picture.specs.Slice.{sliceAt, sliceCount}
 use Rattle.restore.specs.declared.Restoration.{Restoration}
 use Rattle.restore.specs.Restored.{Restorable, AnySuppressed}
 use Rattle.restore.proofs.Restored.{all-cells}
@@ -39,6 +40,7 @@ use Rattle.segments.specs.Pictures.{componentFor, frameFor}
 use Rattle.segments.specs.Ready.{Ready}
 use Rattle.segments.specs.Sides.{acrossFor, downFor}
 use Rattle.stage.specs.Plane.{PlaneReady}
+use Rattle.thresholds.specs.LumaTable.{TcTable}
 
 -- ---- one direction
 
@@ -136,12 +138,33 @@ module _ (p : Picture) (ok : PictureOk p) (o : ℕ) (c : Component) (present : P
   cells-long : 8 * (cellOf (p .height) * cellOf (p .width)) ≡ length (p .cells)
   cells-long = omega (arith, ok .cells-long, mul-comm (cellOf (p .height)) (cellOf (p .width)))
 
+  -- a cell that the passes look up was checked
+  checked : (n : ℕ) → n < cellOf (p .height) * cellOf (p .width)
+      → CellOk (t .luma-depth) (p .slices) (cellByte (p .cells) n)
+  checked n h = ok .cells n (omega (arith, mul-comm (cellOf (p .height)) (cellOf (p .width))))
+
   known : (n : ℕ) → n < cellOf (p .height) * cellOf (p .width) → (cellAt (p .cells) n) .slice < sliceCount (p .slices)
   unfolding cellAt
-  known n h = ok .cells n (omega (arith, mul-comm (cellOf (p .height)) (cellOf (p .width)))) .slice
+  known n h = checked n h .slice
 
-  pub ready : Ready (componentFor t o c) (frameFor p c) (p .cells) (p .slices)
-  ready =
+  qp-most : (n : ℕ) → n < cellOf (p .height) * cellOf (p .width) → (cellAt (p .cells) n) .qp ≤ 115
+  unfolding cellAt
+  qp-most n h = most-out 51 _ 64 (checked n h .qp-high)
+
+  bsv-most : (n : ℕ) → n < cellOf (p .height) * cellOf (p .width) → (cellAt (p .cells) n) .bsv ≤ 2
+  unfolding cellAt
+  bsv-most n h = checked n h .bsv
+
+  bsh-most : (n : ℕ) → n < cellOf (p .height) * cellOf (p .width) → (cellAt (p .cells) n) .bsh ≤ 2
+  unfolding cellAt
+  bsh-most n h = checked n h .bsh
+
+  tc-most : (n : ℕ) → n < sliceCount (p .slices) → (sliceAt (p .slices) n) .tc ≤ 12
+  unfolding sliceAt
+  tc-most n h = ok .slices .records n h .tc
+
+  pub ready : {tcs : List ℕ} → TcTable tcs → Ready (componentFor t o c) (frameFor p c) (p .cells) (p .slices) tcs
+  ready table =
       let a : Sampling = samplingAcross (t .format) c in
       let d : Sampling = samplingDown (t .format) c in
       let z = sizes (t .log2-ctb) (ok .settings .ctb-low) (ok .settings .ctb-high) in
@@ -161,6 +184,11 @@ module _ (p : Picture) (ok : PictureOk p) (o : ℕ) (c : Component) (present : P
         down = rows-inside;
         cells-long = omega (arith, cells-long);
         known = known;
+        qp-most = qp-most;
+        bsv-most = bsv-most;
+        bsh-most = bsh-most;
+        tc-most = tc-most;
+        tc-table = table;
       }
     where
       sound : (c : Component) → Sound (componentFor t o c)
@@ -180,9 +208,9 @@ module _ (p : Picture) (ok : PictureOk p) (o : ℕ) (c : Component) (present : P
         columns-are =
             by-across (λ s. frameFor p c .columns ≡ cellOf (p .width) * fromLuma s 4)
             (all-cells a (p .width) s (ok .width .eights));
-        rows-most = ready .rows-most;
-        wide = ready .wide;
-        high = ready .high;
+        rows-most = omega (arith, ok .height .most, no-more (samplingDown (t .format) c) (p .height));
+        wide = omega (arith, ok .width .most);
+        high = omega (arith, ok .height .most);
         down = rows-inside;
         plane-long = long ∙ mul-comm (frameFor p c .columns) (frameFor p c .rows);
         original-long = ok .originals c ∙ mul-comm (frameFor p c .columns) (frameFor p c .rows);
@@ -195,11 +223,12 @@ pub plane-ready : (p : Picture) (outputs : Planes) → Accepted p outputs → (o
     → {k : Code.Component} → k ≡ componentFor (p .settings) o c → {f : Frame} → f ≡ frameFor p c → {r : Restoration}
     → (r .pcm ≡ p .settings .pcm-loop-filter-disabled)
     × AnySuppressed (p .settings .pcm-loop-filter-disabled) (p .cells) (r .any)
-    → PlaneReady k f r (planeOf outputs c) (planeOf (p .originals) c) (p .cells) (p .slices)
-plane-ready p outputs ok o c present {k} ek {f} ef {r} told =
+    → {tcs : List ℕ} → TcTable tcs
+    → PlaneReady k f r (planeOf outputs c) (planeOf (p .originals) c) (p .cells) (p .slices) tcs
+plane-ready p outputs ok o c present {k} ek {f} ef {r} told table =
     rw (ek, ef)
     (record {
-      ready = ready p (ok .picture) o c present;
+      ready = ready p (ok .picture) o c present table;
       lent = restorable p (ok .picture) o c present (planeOf outputs c) (ok .outputs-long c);
       any = rw (told .0) (told .1);
     })

@@ -69,9 +69,9 @@ frame-made {f} ec er ea ed eb =
 
 -- ---- what is lent stays lent when the plane changes and keeps its length
 
-pub lent-again : {k : Component} {f : Frame} {r : Restoration} {a b original cells slices : List ℕ}
+pub lent-again : {k : Component} {f : Frame} {r : Restoration} {a b original cells slices tcs : List ℕ}
     → length b ≡ length a
-    → PlaneReady k f r a original cells slices → PlaneReady k f r b original cells slices
+    → PlaneReady k f r a original cells slices tcs → PlaneReady k f r b original cells slices tcs
 lent-again len l =
     let lent = l .lent in
     record {
@@ -112,14 +112,14 @@ module _ (k : Component) (f : Frame) (pcm : Bool) (original cells slices : List 
       restored
 
   -- the horizontal step goes by the samples that the vertical one left
-  horizontal-step : Ready k f cells slices → (rows : List ℕ)
+  horizontal-step : {tcs : List ℕ} → Ready k f cells slices tcs → (rows : List ℕ)
       → Local (f .columns) 0 (f .rows) (stepFor horizontal k f pcm original cells slices rows)
   horizontal-step ready rows P Q same =
       restored-local pcm cells k f (at original (f .columns)) (f .columns) 0 (f .rows) _ _
       (horizontal-local kernel (f .columns) (f .rows) 0 (f .rows) _ (ready .columns4) (ready .rows4) (inl refl)
       (inr (inl refl)) P Q same)
 
-  pub chain : Ready k f cells slices → (columns rows s0 s1 s2 : List ℕ)
+  pub chain : {tcs : List ℕ} → Ready k f cells slices tcs → (columns rows s0 s1 s2 : List ℕ)
       → s0 ≡ original
       → Holds (f .columns) (f .rows) s1 (stepFor vertical k f pcm original cells slices columns (at s0 (f .columns)))
       → Holds (f .columns) (f .rows) s2 (stepFor horizontal k f pcm original cells slices rows (at s1 (f .columns)))

@@ -29,7 +29,8 @@ finishedFor k f pcm original cells slices columns rows =
     (stepFor vertical k f pcm original cells slices columns (at original (f .columns)))
 
 -- what a component's plane is finished with, of an accepted picture
-pub record PlaneReady (k : Component) (f : Frame) (r : Restoration) (out original cells slices : List ℕ) : Type 0 where
-  pub ready : Ready k f cells slices
+pub record PlaneReady (k : Component) (f : Frame) (r : Restoration)
+    (out original cells slices tcs : List ℕ) : Type 0 where
+  pub ready : Ready k f cells slices tcs
   pub lent : Restorable k f out original cells
   pub any : AnySuppressed (r .pcm) cells (r .any)

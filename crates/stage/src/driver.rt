@@ -10,6 +10,7 @@ use ledger::Verdict;
 use ledger::check;
 use picture::Settings;
 use restore::restoration_of;
+use thresholds::luma_tc_table;
 ghost use mathlib.Core.Path.{_≡_};
 ghost use Rattle.filter.specs.Finished.{finished, outputs};
 ghost use Rattle.ledger.specs.Numbered.{numbered};
@@ -35,18 +36,19 @@ fn deblock(
     ensures { λ _. ⌜ planesLeft outy outcb outcr ≡
         finished (pictureGiven settings y cb cr cells slices columns rows) ⌝ }
 {
+    let tcs = luma_tc_table();
     let r = restoration_of(cells, settings.pcm_loop_filter_disabled);
     let k = luma_component(settings);
     let f = luma_frame(settings);
-    finish_plane(outy, y, cells, slices, columns, rows, k, f, r);
+    finish_plane(outy, y, cells, slices, columns, rows, &tcs, k, f, r);
     if settings.chroma_format == 0 {
         return;
     }
     let kb = chroma_component(settings, biased_offset(settings.cb_qp_offset));
     let kr = chroma_component(settings, biased_offset(settings.cr_qp_offset));
     let fc = chroma_frame(settings);
-    finish_plane(outcb, cb, cells, slices, columns, rows, kb, fc, r);
-    finish_plane(outcr, cr, cells, slices, columns, rows, kr, fc, r);
+    finish_plane(outcb, cb, cells, slices, columns, rows, &tcs, kb, fc, r);
+    finish_plane(outcr, cr, cells, slices, columns, rows, &tcs, kr, fc, r);
 }
 
 // The stage. Any input at all: the answer is the ledger's, and the output planes hold the finished picture, or what

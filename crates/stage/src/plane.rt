@@ -33,18 +33,19 @@ fn pass(
     cells: &[u8],
     slices: &[u8],
     starts: &[u16],
+    tcs: &[u8; 1352],
     d: Direction,
     k: Component,
     f: Frame,
 )
-    requires { ⌜ Ready k f (now cells) (now slices) ⌝ }
+    requires { ⌜ Ready k f (now cells) (now slices) (now tcs) ⌝ }
     requires { ⌜ length (now out) ≡ f .rows * f .columns ⌝ }
     ensures { λ _. ⌜ Holds (f .columns) (f .rows) (left out)
         (passFor (directionOf d) k f (given cells) (given slices) (given starts) (at (given out) (f .columns))) ⌝ }
 {
     match d {
-        Direction::Vertical => vertical_pass(out, cells, slices, starts, k, f),
-        Direction::Horizontal => horizontal_pass(out, cells, slices, starts, k, f),
+        Direction::Vertical => vertical_pass(out, cells, slices, starts, tcs, k, f),
+        Direction::Horizontal => horizontal_pass(out, cells, slices, starts, tcs, k, f),
     }
 }
 
@@ -55,17 +56,18 @@ fn step(
     cells: &[u8],
     slices: &[u8],
     starts: &[u16],
+    tcs: &[u8; 1352],
     d: Direction,
     k: Component,
     f: Frame,
     r: Restoration,
 )
-    requires { ⌜ PlaneReady k f r (now out) (now original) (now cells) (now slices) ⌝ }
+    requires { ⌜ PlaneReady k f r (now out) (now original) (now cells) (now slices) (now tcs) ⌝ }
     ensures { λ _. ⌜ Holds (f .columns) (f .rows) (left out)
         (stepFor (directionOf d) k f (r .pcm) (given original) (given cells) (given slices) (given starts)
         (at (given out) (f .columns))) ⌝ }
 {
-    pass(out, cells, slices, starts, d, k, f);
+    pass(out, cells, slices, starts, tcs, d, k, f);
     restore(out, original, cells, r, k, f);
 }
 
@@ -77,11 +79,12 @@ pub(crate) fn finish_plane(
     slices: &[u8],
     columns: &[u16],
     rows: &[u16],
+    tcs: &[u8; 1352],
     k: Component,
     f: Frame,
     r: Restoration,
 )
-    requires { ⌜ PlaneReady k f r (now out) (now original) (now cells) (now slices) ⌝ }
+    requires { ⌜ PlaneReady k f r (now out) (now original) (now cells) (now slices) (now tcs) ⌝ }
     ensures { λ _. ⌜ left out ≡ table (f .columns) (f .rows)
         (finishedFor k f (r .pcm) (given original) (given cells) (given slices) (given columns) (given rows)) ⌝ }
 {
@@ -92,6 +95,7 @@ pub(crate) fn finish_plane(
         cells,
         slices,
         columns,
+        tcs,
         Direction::Vertical,
         k,
         f,
@@ -103,6 +107,7 @@ pub(crate) fn finish_plane(
         cells,
         slices,
         rows,
+        tcs,
         Direction::Horizontal,
         k,
         f,

@@ -17,11 +17,12 @@ pub fn horizontal_strip(
     cells: &[u8],
     slices: &[u8],
     starts: &[u16],
+    tcs: &[u8; 1352],
     k: Component,
     f: Frame,
     edge: usize,
 )
-    requires { ⌜ Ready k f (now cells) (now slices) ⌝ }
+    requires { ⌜ Ready k f (now cells) (now slices) (now tcs) ⌝ }
     requires { ⌜ (length (now s) ≡ 8 * f .columns) × (edge % 8 ≡ 0) × (8 ≤ edge) × (edge < f .rows) ⌝ }
     ensures { λ _. ⌜ Rows (f .columns) (edge - 4) (edge + 4) (left s)
         (passFor horizontal k f (given cells) (given slices) (given starts)
@@ -29,7 +30,7 @@ pub fn horizontal_strip(
 {
     let mut x = 0;
     while x < f.columns {
-        horizontal_segment(s, cells, slices, starts, k, f, edge, x);
+        horizontal_segment(s, cells, slices, starts, tcs, k, f, edge, x);
         x += 4;
     }
 }

@@ -31,12 +31,13 @@ pub(crate) fn vertical_segment(
     cells: &[u8],
     slices: &[u8],
     starts: &[u16],
+    tcs: &[u8; 1352],
     k: Component,
     f: Frame,
     e: usize,
     l: usize,
 ) -> Treatment
-    requires { ⌜ Ready k f (now cells) (now slices) ⌝ }
+    requires { ⌜ Ready k f (now cells) (now slices) (now tcs) ⌝ }
     requires { ⌜ (length (now s) ≡ 4 * f .columns) × (l + 4 ≤ f .rows) × (8 ≤ e) × (e + 4 ≤ f .columns) ⌝ }
     ensures { λ _. ⌜ Filtered 4
         (taken kernel (segmentFor vertical k f (given cells) (given slices) (given starts) e l))
@@ -48,7 +49,7 @@ pub(crate) fn vertical_segment(
         return Treatment::Closed;
     }
     let base = e - 4;
-    match vertical_filter(cells, slices, starts, k, f, e, l) {
+    match vertical_filter(cells, slices, starts, tcs, k, f, e, l) {
         Segment::Closed => Treatment::Closed,
         Segment::Luma { beta, tc } => {
             let t = LumaFilter {
@@ -75,12 +76,13 @@ pub(crate) fn horizontal_segment(
     cells: &[u8],
     slices: &[u8],
     starts: &[u16],
+    tcs: &[u8; 1352],
     k: Component,
     f: Frame,
     e: usize,
     l: usize,
 ) -> Treatment
-    requires { ⌜ Ready k f (now cells) (now slices) ⌝ }
+    requires { ⌜ Ready k f (now cells) (now slices) (now tcs) ⌝ }
     requires { ⌜ (length (now s) ≡ 8 * f .columns) × (l + 4 ≤ f .columns) × (8 ≤ e) × (e < f .rows) ⌝ }
     ensures { λ _. ⌜ Filtered 4
         (taken kernel (segmentFor horizontal k f (given cells) (given slices) (given starts) e l))
@@ -91,7 +93,7 @@ pub(crate) fn horizontal_segment(
     if !horizontal_edge(cells, k, f, e, l) {
         return Treatment::Closed;
     }
-    match horizontal_filter(cells, slices, starts, k, f, e, l) {
+    match horizontal_filter(cells, slices, starts, tcs, k, f, e, l) {
         Segment::Closed => Treatment::Closed,
         Segment::Luma { beta, tc } => {
             let t = LumaFilter {

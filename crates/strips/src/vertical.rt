@@ -17,18 +17,19 @@ pub fn vertical_strip(
     cells: &[u8],
     slices: &[u8],
     starts: &[u16],
+    tcs: &[u8; 1352],
     k: Component,
     f: Frame,
     row: usize,
 )
-    requires { ⌜ Ready k f (now cells) (now slices) ⌝ }
+    requires { ⌜ Ready k f (now cells) (now slices) (now tcs) ⌝ }
     requires { ⌜ (length (now s) ≡ 4 * f .columns) × (row % 4 ≡ 0) × (row + 4 ≤ f .rows) ⌝ }
     ensures { λ _. ⌜ Rows (f .columns) row (row + 4) (left s)
         (passFor vertical k f (given cells) (given slices) (given starts) (seen (f .columns) row (given s))) ⌝ }
 {
     let mut e = 8;
     while e < f.columns {
-        vertical_segment(s, cells, slices, starts, k, f, e, row);
+        vertical_segment(s, cells, slices, starts, tcs, k, f, e, row);
         e += 8;
     }
 }

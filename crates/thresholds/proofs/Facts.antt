@@ -26,7 +26,7 @@ use Rattle.ints.proofs.Laws.{
   clip-index-is,
 }
 use Rattle.thresholds.specs.Tables.{BETA, TC, QPC}
-use Rattle.thresholds.specs.Luma.{averageQp, betaIndex, tcIndex, scaled, lumaBeta, lumaTc}
+use Rattle.thresholds.specs.Luma.{averageQp, betaIndex, tcIndex, scaled, lumaBeta}
 use Rattle.thresholds.specs.Chroma.{tableQpc, chromaQp, chromaTc}
 
 -- ---- indices
@@ -112,11 +112,6 @@ pub beta-made : (d a o : ℕ) {q v r : ℕ} → q ≡ min 51 (a + 2 * o - 76) �
     → r ≡ lumaBeta d (a ⊖ 64) (o ⊖ 6)
 unfolding lumaBeta
 beta-made d a o eq ev er = er ∙ ap (scaled d) (ev ∙ ap (λ (k : ℕ). getD BETA k 0) (eq ∙ sym (beta-is a o)))
-
-pub tc-made : (d a s o : ℕ) {q v r : ℕ} → q ≡ min 53 (a + 2 * s + 2 * o - 78) → v ≡ getD TC q 0 → r ≡ scaled d v
-    → r ≡ lumaTc d (a ⊖ 64) (pos s) (o ⊖ 6)
-unfolding lumaTc
-tc-made d a s o eq ev er = er ∙ ap (scaled d) (ev ∙ ap (λ (k : ℕ). getD TC k 0) (eq ∙ sym (tc-is 64 a s 6 o)))
 
 pub chroma-made : (f d a p o i : ℕ) {q v r : ℕ} → i ⊖ 76 ≡ chromaQp f ((a + p) ⊖ 76)
     → q ≡ min 53 (i + 4 + 2 * o - 90) → v ≡ getD TC q 0 → r ≡ scaled d v

@@ -1,12 +1,12 @@
 // 8.7.2.5.3: the average QP and the luma thresholds.
 use crate::tables::beta_row;
 use crate::tables::scale;
-use crate::tables::tc_row;
 ghost use mathlib.Core.Path.{_≡_};
 ghost use Prim.Native.Nat.{_≤_};
 ghost use lib.IntN.{pos};
 ghost use Rattle.ints.specs.Int.{_⊖_};
 ghost use Rattle.thresholds.specs.Luma.{averageQp, lumaBeta, lumaTc};
+ghost use Rattle.thresholds.specs.LumaTable.{TcTable};
 
 // (QpQ + QpP + 1) >> 1, rounded down also below zero: the bytes, 64 more than the QPs, are never below it.
 pub fn average_qp(p: u8, q: u8) -> u8
@@ -24,12 +24,17 @@ pub fn luma_beta(depth: u32, average: u8, offset: u8) -> u16
     scale(depth, beta_row(q as usize))
 }
 
-// tc, of an average QP, the segment's bS and the tc offset of Q's slice
-pub fn luma_tc(depth: u32, average: u8, bs: u8, offset: u8) -> u16
+// tc, of an average QP, the segment's bS and the tc offset of Q's slice: one look into the table of depth 8, scaled. A
+// negative average gives 0 without a look.
+pub fn luma_tc(tcs: &[u8; 1352], depth: u32, average: u8, bs: u8, offset: u8) -> u16
+    requires { ⌜ TcTable (now tcs) ⌝ }
     requires { ⌜ (8 ≤ depth) × (depth ≤ 16) ⌝ }
+    requires { ⌜ (average ≤ 115) × (1 ≤ bs) × (bs ≤ 2) × (offset ≤ 12) ⌝ }
     ensures { λ r. ⌜ r ≡ lumaTc depth (average ⊖ 64) (pos bs) (offset ⊖ 6) ⌝ }
 {
-    let v = (average as u32) + 2 * (bs as u32) + 2 * (offset as u32);
-    let q = ints::clip_index(53, v, 78);
-    scale(depth, tc_row(q as usize))
+    if average < 64 {
+        return 0;
+    }
+    let place = 26 * ((average as usize) - 64) + 13 * ((bs as usize) - 1) + (offset as usize);
+    scale(depth, tcs[place] as u16)
 }

@@ -1,6 +1,6 @@
-// Tables 8-12 and 8-10. A row is given by a formula or lies in a word of eight, and is proved to be the table's: a
-// list in the code would be laid out on the stack anew at each read. A row past a table's ends is refused by the
-// proof; the callers clip their index first.
+// Tables 8-12 and 8-10, but for the luma tc, which has its own (luma_table.rt). A row is given by a formula or lies in
+// a word of eight, and is proved to be the table's: a list in the code would be laid out on the stack anew at each
+// read. A row past a table's ends is refused by the proof; the callers clip their index first.
 ghost use mathlib.Core.Path.{_≡_};
 ghost use Prim.Native.Nat.{_+_, _*_, _/_, _%_, _^_, _≤_, _<_};
 ghost use lib.ListN.{getD};

@@ -20,12 +20,13 @@ fn vertical_band(
     cells: &[u8],
     slices: &[u8],
     starts: &[u16],
+    tcs: &[u8; 1352],
     k: Component,
     f: Frame,
     row0: usize,
     row1: usize,
 )
-    requires { ⌜ Ready k f (now cells) (now slices) ⌝ }
+    requires { ⌜ Ready k f (now cells) (now slices) (now tcs) ⌝ }
     requires { ⌜ (length (now s) ≡ (row1 - row0) * f .columns)
         × (row0 % 4 ≡ 0) × (row1 % 4 ≡ 0) × (row1 ≤ f .rows) ⌝ }
     ensures { λ _. ⌜ Rows (f .columns) row0 row1 (left s)
@@ -35,7 +36,7 @@ fn vertical_band(
     while r < row1 {
         let a = (r - row0) * f.columns;
         let b = (r + 4 - row0) * f.columns;
-        vertical_strip(&mut s[a..b], cells, slices, starts, k, f, r);
+        vertical_strip(&mut s[a..b], cells, slices, starts, tcs, k, f, r);
         r += 4;
     }
 }
@@ -46,10 +47,11 @@ pub fn vertical_pass(
     cells: &[u8],
     slices: &[u8],
     starts: &[u16],
+    tcs: &[u8; 1352],
     k: Component,
     f: Frame,
 )
-    requires { ⌜ Ready k f (now cells) (now slices) ⌝ }
+    requires { ⌜ Ready k f (now cells) (now slices) (now tcs) ⌝ }
     requires { ⌜ length (now s) ≡ f .rows * f .columns ⌝ }
     ensures { λ _. ⌜ Holds (f .columns) (f .rows) (left s)
         (passFor vertical k f (given cells) (given slices) (given starts) (at (given s) (f .columns))) ⌝ }
@@ -59,7 +61,7 @@ pub fn vertical_pass(
         let end = ctb_band_end(f.rows, f.band, r);
         let a = r * f.columns;
         let b = end * f.columns;
-        vertical_band(&mut s[a..b], cells, slices, starts, k, f, r, end);
+        vertical_band(&mut s[a..b], cells, slices, starts, tcs, k, f, r, end);
         r = end;
     }
 }

@@ -26,12 +26,12 @@ use Rattle.horizontal_pass.proofs.horizontal_band.Statement.{statement}
 use Rattle.horizontal_pass.proofs.horizontal_band.Tie as tie
 
 abbrev Inv-loop : tie.InvT-loop
-Inv-loop s₀ cells slices starts k f row0 row1 e₀ s e =
+Inv-loop s₀ cells slices starts tcs k f row0 row1 e₀ s e =
     (e % 8 ≡ 0) × (8 ≤ e) × (row0 + 4 ≤ e) × (length s ≡ length s₀)
     × Done (f .columns) row0 row1 (passFor horizontal k f cells slices starts) (seen (f .columns) row0 s₀) (e - 4) s
 
 abbrev μ-loop : tie.MeasureT-loop
-μ-loop s₀ cells slices starts k f row0 row1 e₀ s e = row1 - e
+μ-loop s₀ cells slices starts tcs k f row0 row1 e₀ s e = row1 - e
 
 -- the way back to the call, over the lists that are known
 abbrev lists : tie.After-shared-slice-known3 Inv-loop μ-loop → tie.After-slice-known Inv-loop μ-loop

@@ -17,13 +17,13 @@ use Rattle.horizontal_pass.proofs.horizontal_pass.Statement.{statement}
 use Rattle.horizontal_pass.proofs.horizontal_pass.Tie as tie
 
 abbrev Inv-loop : tie.InvT-loop
-Inv-loop s₀ cells slices starts k f r₀ s r =
+Inv-loop s₀ cells slices starts tcs k f r₀ s r =
     Seam (f .rows) r × (r ≤ f .rows) × (length s ≡ length s₀)
     × DoneTo (f .columns) (f .rows) (passFor horizontal k f cells slices starts) (at s₀ (f .columns)) r s
     × Through (horizontalBands (f .rows) (f .band)) (horizontalBandEnd (f .rows) (f .band)) (f .rows) r
 
 abbrev μ-loop : tie.MeasureT-loop
-μ-loop s₀ cells slices starts k f r₀ s r = f .rows - r
+μ-loop s₀ cells slices starts tcs k f r₀ s r = f .rows - r
 
 -- the way back to the call, over the lists that are known
 abbrev lists : tie.After-shared-slice-known3 Inv-loop μ-loop → tie.After-slice-known Inv-loop μ-loop

@@ -15,12 +15,12 @@ use Rattle.vertical_pass.proofs.vertical_band.Statement.{statement}
 use Rattle.vertical_pass.proofs.vertical_band.Tie as tie
 
 abbrev Inv-loop : tie.InvT-loop
-Inv-loop s₀ cells slices starts k f row0 row1 r₀ s r =
+Inv-loop s₀ cells slices starts tcs k f row0 row1 r₀ s r =
     (r % 4 ≡ 0) × (row0 ≤ r) × (length s ≡ length s₀)
     × Done (f .columns) row0 row1 (passFor vertical k f cells slices starts) (seen (f .columns) row0 s₀) r s
 
 abbrev μ-loop : tie.MeasureT-loop
-μ-loop s₀ cells slices starts k f row0 row1 r₀ s r = row1 - r
+μ-loop s₀ cells slices starts tcs k f row0 row1 r₀ s r = row1 - r
 
 -- the way back to the call, over the lists that are known
 abbrev lists : tie.After-shared-slice-known3 Inv-loop μ-loop → tie.After-slice-known Inv-loop μ-loop

@@ -2,7 +2,7 @@
 -- Assumes nothing.
 use native.Mathlib.Omega.{arith}
 use Rattle.text.proofs.Append.{appended-then}
-use Rattle.bench_record.proofs.Refused.{depth-accepted}
+use Rattle.bench_record.proofs.Refused.{accepted}
 use Rattle.bench.proofs.Facts.{segment-made}
 use borrow.Author.Needs.{needs}
 use Rattle.bench.proofs.segment.put_segment.Statement.{statement}
@@ -30,7 +30,7 @@ abbrev call : tie.After-head-of → tie.Start
 call c = c .before .before .before
 
 thresholds-of-requires : tie.Need-thresholds-of-requires
-thresholds-of-requires c κs = rw (c .head-of .ensures) (depth-accepted _ (call c .pre .1))
+thresholds-of-requires c κs = rw (c .head-of .ensures) (accepted _ (call c .pre .1))
 
 put-first-requires : tie.Need-put-first-requires
 put-first-requires c κs = omega (arith, call (thresholds (second-line (c .before)) .before) .pre .0)

@@ -27,14 +27,14 @@ made-luma : (f : tie.After-luma-filter)
     → Case.luma (f .luma-filter .result .beta) (f .luma-filter .result .tc) (luma f .args .k .largest)
     ≡ filterFor (luma f .args .k) (luma f .args .p) (luma f .args .q) (luma f .args .s) (luma f .args .bs)
 made-luma f =
-    luma-at-largest (luma f .args .k) _ _ _ _ (luma f .pre) _ (f .luma-filter .ensures)
+    luma-at-largest (luma f .args .k) _ _ _ _ (luma f .pre .0) _ (f .luma-filter .ensures)
     ∙ luma-for (luma f .args .k) _ _ _ _ (f .before .if1 .taken)
 
 made-chroma : (f : tie.After-chroma-filter)
     → Case.chroma (f .chroma-filter .result .tc) (chroma f .args .k .largest)
     ≡ filterFor (chroma f .args .k) (chroma f .args .p) (chroma f .args .q) (chroma f .args .s) (chroma f .args .bs)
 made-chroma f =
-    chroma-at-largest (chroma f .args .k) _ _ _ (chroma f .args .bs) (chroma f .pre) _ (f .chroma-filter .ensures)
+    chroma-at-largest (chroma f .args .k) _ _ _ (chroma f .args .bs) (chroma f .pre .0) _ (f .chroma-filter .ensures)
     ∙ chroma-for (chroma f .args .k) _ _ _ _ (f .before .if1 .left)
 
 returns : tie.Need-returns

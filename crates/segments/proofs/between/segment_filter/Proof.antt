@@ -4,7 +4,7 @@ use mathlib.Core.Path.{sym, _∙_}
 use native.Mathlib.Omega.{arith}
 use borrow.Author.Needs.{needs}
 use Rattle.segments.specs.Between.{leastFor}
-use Rattle.segments.proofs.Gates.{closed-bs, closed-tile, closed-slices, opened}
+use Rattle.segments.proofs.Gates.{closed-bs, closed-tile, closed-slices, opened, least-some, open-in-table}
 use Rattle.segments.proofs.between.segment_filter.Statement.{statement}
 use Rattle.segments.proofs.between.segment_filter.Tie as tie
 
@@ -24,6 +24,18 @@ returns-2 : tie.Need-returns-2
 returns-2 c =
     let bs = c .before .before in
     closed-tile (at-bs bs .args .k) _ _ _ (omega (arith, bs .before .least-bs .ensures)) (c .if2 .taken)
+
+open-filter-requires : tie.Need-open-filter-requires
+open-filter-requires c κs =
+    let told = c .before in
+    let gate = told .before .before in
+    let bs = at-tile (gate .before) in
+    let call = at-bs bs in
+    let gate-open = sym (gate .slice-gate .ensures) ∙ told .s .given .1 in
+    let segment = open-in-table _ _ _ _ _ gate-open (call .pre .1 .1 .1) in (
+      call .pre .0,
+      (call .pre .1 .0, (omega (arith, bs .before .least-bs .ensures, least-some (call .args .k)), segment)),
+    )
 
 returns-3 : tie.Need-returns-3
 returns-3 c =
@@ -51,6 +63,6 @@ segment-filter-spec =
     (λ c κs. search needs)
     (λ c. search needs)
     (λ c. search needs)
-    (λ c κs. search needs)
+    open-filter-requires
     returns-3
     returns-4)

@@ -38,11 +38,11 @@ lent st =
     planesNow (a .outy) (a .outcb) (a .outcr)
 
 abbrev call : tie.After-restoration-of → tie.Start
-call c = start (c .before)
+call c = start (c .before .before)
 
 -- luma: from its plane that is finished to the frame, and from there to the restoration
 abbrev framed : tie.After-finish-plane → tie.After-luma-frame
-framed c = c .before .before
+framed c = c .before .before .before
 
 abbrev restoring : tie.After-luma-frame → tie.After-restoration-of
 restoring c = c .before .before
@@ -63,7 +63,7 @@ abbrev cb-plane : tie.After-finish-plane-arg3 → tie.After-finish-plane2
 cb-plane c = c .before .before .before
 
 abbrev chroma-framed : tie.After-finish-plane2 → tie.After-chroma-frame
-chroma-framed c = c .before .before
+chroma-framed c = c .before .before .before
 
 -- the call, seen from the chroma part
 abbrev st : tie.Else1 → tie.Start
@@ -82,10 +82,10 @@ cr-offset c = toZ-ofZ (sfits-of (c .struct-told2 .given .1 .1 .1 .1 .1 .1 .1 .0 
 
 finish-plane-requires : tie.Need-finish-plane-requires
 finish-plane-requires c κs =
-    let f = c .before in
+    let f = c .before .before in
     let r = restoring f in
     plane-ready (picture (call r)) (lent (call r)) (call r .pre) 12 Y tt (f .before .luma-component .ensures)
-    (f .luma-frame .ensures) (r .restoration-of .ensures)
+    (f .luma-frame .ensures) (r .restoration-of .ensures) (r .before .luma-tc-table .ensures)
 
 returns : tie.Need-returns
 returns c =
@@ -106,28 +106,31 @@ present c = omega (arith, c .if1 .left)
 
 finish-plane-requires-2 : tie.Need-finish-plane-requires-2
 finish-plane-requires-2 c κs =
-    let f = c .before in
+    let f = c .before .before in
     let k = cb-part (f .before) in
     let e = chroma k in
+    let r = restoring (framed (luma (e .before))) in
     plane-ready (picture (st e)) (lent (st e)) (st e .pre) _ Cb (present e) (k .chroma-component .ensures)
-    (f .chroma-frame .ensures) (restoring (framed (luma (e .before))) .restoration-of .ensures)
+    (f .chroma-frame .ensures) (r .restoration-of .ensures) (r .before .luma-tc-table .ensures)
 
 finish-plane-requires-3 : tie.Need-finish-plane-requires-3
 finish-plane-requires-3 c κs =
-    let f = chroma-framed (cb-plane c) in
+    let f = chroma-framed (cb-plane (c .before)) in
     let e = chroma (cb-part (f .before)) in
+    let r = restoring (framed (luma (e .before))) in
     plane-ready (picture (st e)) (lent (st e)) (st e .pre) _ Cr (present e) (f .before .chroma-component2 .ensures)
-    (f .chroma-frame .ensures) (restoring (framed (luma (e .before))) .restoration-of .ensures)
+    (f .chroma-frame .ensures) (r .restoration-of .ensures) (r .before .luma-tc-table .ensures)
 
 luma-long : tie.Need-same-length-2
 luma-long c =
-    let kr = chroma-framed (cb-plane (c .before .before .before)) .before in
+    let cr = c .before .before in
+    let kr = chroma-framed (cb-plane (cr .before .before)) .before in
     luma (chroma (cb-part kr) .before) .finish-plane .kept .0
 
 returns-2 : tie.Need-returns-2
 returns-2 c =
     let cr = c .before .before in
-    let cb = cb-plane (cr .before) in
+    let cb = cb-plane (cr .before .before) in
     let fc = chroma-framed cb in
     let kr = fc .before in
     let kb = cb-part kr in
@@ -148,6 +151,7 @@ pub deblock-spec : {M : Type 1} → statement M
 deblock-spec =
     tie.close
     (tie.spec
+    (λ c κs. search needs)
     (λ c κs. search needs)
     (λ c κs. call c .pre .picture .settings .luma-high)
     (λ c κs. call (c .before) .pre .picture .settings .ctb-high)

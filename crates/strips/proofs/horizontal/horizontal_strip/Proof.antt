@@ -13,13 +13,13 @@ use Rattle.strips.proofs.horizontal.horizontal_strip.Statement.{stateme
 use Rattle.strips.proofs.horizontal.horizontal_strip.Tie as tie
 
 abbrev Inv-loop : tie.InvT-loop
-Inv-loop s₀ cells slices starts k f edge x₀ s x =
+Inv-loop s₀ cells slices starts tcs k f edge x₀ s x =
     (x % 4 ≡ 0) × (length s ≡ length s₀)
     × Segments kernel (f .columns) (f .rows) edge (segmentFor horizontal k f cells slices starts)
     (seen (f .columns) (edge - 4) s₀) x s
 
 abbrev μ-loop : tie.MeasureT-loop
-μ-loop s₀ cells slices starts k f edge x₀ s x = f .columns - x
+μ-loop s₀ cells slices starts tcs k f edge x₀ s x = f .columns - x
 
 -- the way back to the call, over the lists that are known
 abbrev lists : tie.After-shared-slice-known3 Inv-loop μ-loop → tie.After-slice-known Inv-loop μ-loop

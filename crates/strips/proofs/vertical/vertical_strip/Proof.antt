@@ -13,13 +13,13 @@ use Rattle.strips.proofs.vertical.vertical_strip.Statement.{statement}
 use Rattle.strips.proofs.vertical.vertical_strip.Tie as tie
 
 abbrev Inv-loop : tie.InvT-loop
-Inv-loop s₀ cells slices starts k f row e₀ s e =
+Inv-loop s₀ cells slices starts tcs k f row e₀ s e =
     (e % 8 ≡ 0) × (8 ≤ e) × (length s ≡ length s₀)
     × Columns kernel (f .columns) row (segmentFor vertical k f cells slices starts)
     (seen (f .columns) row s₀) e s
 
 abbrev μ-loop : tie.MeasureT-loop
-μ-loop s₀ cells slices starts k f row e₀ s e = f .columns - e
+μ-loop s₀ cells slices starts tcs k f row e₀ s e = f .columns - e
 
 -- the way back to the call, over the lists that are known
 abbrev lists : tie.After-shared-slice-known3 Inv-loop μ-loop → tie.After-slice-known Inv-loop μ-loop
