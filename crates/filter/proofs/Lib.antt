@@ -6,4 +6,5 @@ pub mod Ends
 pub mod Example
 pub mod Figures
 pub mod Leaves
+pub mod Negative
 pub mod Partings

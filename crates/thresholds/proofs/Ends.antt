@@ -1,5 +1,5 @@
 -- Each table one row past both ends: what the definitions give at index -1, 0, last and last + 1. The code cannot read
--- past an end: `beta_row`, `tc_row` and `qpc_row` require an index inside their table.
+-- past an end: `beta_row`, `tc_row`, `qpc_row` and `luma_tc` require an index inside their table.
 use mathlib.Core.Path.{_≡_, refl}
 use lib.ListN.{length}
 use lib.IntN.{ℤ, pos, negsuc}
@@ -8,6 +8,7 @@ use Rattle.ints.specs.Int.{_⊞_, _⊟_, neg, _⊠_, lt, clip3, natOf}
 use Rattle.ints.proofs.Bounds.{sum-least, sum-most}
 use Rattle.thresholds.specs.Tables.{BETA, TC, QPC}
 use Rattle.thresholds.specs.Luma.{averageQp, betaIndex, tcIndex, scaled, lumaBeta, lumaTc}
+use Rattle.thresholds.specs.LumaTable.{tcPlace}
 use Rattle.thresholds.specs.Chroma.{tableQpc, chromaQp, chromaTc}
 use Rattle.thresholds.proofs.Facts.{average-least, average-most}
 
@@ -50,6 +51,38 @@ pub tc-values :
     × (lumaTc 16 (pos 40) (pos 2) (pos 6) ≡ 6144)
 unfolding lumaTc tcIndex scaled TC natOf clip3 lt _⊞_ _⊟_ _⊠_
 tc-values = (refl, refl, refl, refl, refl)
+
+-- The table of the luma tc (C-18): its first and its last place, and the first past it. An offset or a bS past its end
+-- would be another row's entry, so `luma_tc` asks for a bS of 1 or 2, an offset of 12 at the most and an average of 51
+-- at the most.
+pub place-ends :
+    (tcPlace 0 1 0 ≡ 0)
+    × (tcPlace 51 2 12 ≡ 1351)
+    × (tcPlace 52 1 0 ≡ 1352)
+    × (tcPlace 30 1 13 ≡ tcPlace 30 2 0)
+    × (tcPlace 30 3 0 ≡ tcPlace 31 1 0)
+unfolding tcPlace
+place-ends = (refl, refl, refl, refl, refl)
+
+-- tC at depth 8 of the averages -1, 0, 51 and 52, each at tc div2 -6 and 6, for bS 1 and for bS 2. No picture has the
+-- last average: a QP of 52 is refused.
+pub average-ends :
+    (lumaTc 8 (negsuc 0) (pos 1) (negsuc 5) ≡ 0) × (lumaTc 8 (negsuc 0) (pos 1) (pos 6) ≡ 0)
+    × (lumaTc 8 (negsuc 0) (pos 2) (negsuc 5) ≡ 0) × (lumaTc 8 (negsuc 0) (pos 2) (pos 6) ≡ 0)
+    × (lumaTc 8 (pos 0) (pos 1) (negsuc 5) ≡ 0) × (lumaTc 8 (pos 0) (pos 1) (pos 6) ≡ 0)
+    × (lumaTc 8 (pos 0) (pos 2) (negsuc 5) ≡ 0) × (lumaTc 8 (pos 0) (pos 2) (pos 6) ≡ 0)
+    × (lumaTc 8 (pos 51) (pos 1) (negsuc 5) ≡ 5) × (lumaTc 8 (pos 51) (pos 1) (pos 6) ≡ 24)
+    × (lumaTc 8 (pos 51) (pos 2) (negsuc 5) ≡ 6) × (lumaTc 8 (pos 51) (pos 2) (pos 6) ≡ 24)
+    × (lumaTc 8 (pos 52) (pos 1) (negsuc 5) ≡ 6) × (lumaTc 8 (pos 52) (pos 1) (pos 6) ≡ 24)
+    × (lumaTc 8 (pos 52) (pos 2) (negsuc 5) ≡ 7) × (lumaTc 8 (pos 52) (pos 2) (pos 6) ≡ 24)
+unfolding lumaTc tcIndex scaled TC natOf clip3 lt _⊞_ _⊟_ _⊠_
+average-ends =
+    (refl, refl, refl, refl, refl, refl, refl, refl, refl, refl, refl, refl, refl, refl, refl, refl)
+
+-- The least average that has a tC is 4, at bS 2 and tc div2 6: row 18.
+pub least-average : (lumaTc 8 (pos 3) (pos 2) (pos 6) ≡ 0) × (lumaTc 8 (pos 4) (pos 2) (pos 6) ≡ 1)
+unfolding lumaTc tcIndex scaled TC natOf clip3 lt _⊞_ _⊟_ _⊠_
+least-average = (refl, refl)
 
 -- table 8-10 at 29, 30, 43 and 44
 pub qpc-ends :
