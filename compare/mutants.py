@@ -6,8 +6,8 @@
     compare/mutants.py --places         builds nothing: does each mutant's place stand once in the sources?
 
 A mutant is a copy of the sources under target/mutants changed at one place, built without proof (unproved.py). The comparison loads its
-library in place of the proved static library, or runs its program convert_cells; of what the bench prints and the stage does not, the
-program segment_bench is run beside the oracle, on random records. The unchanged sources go first: there nothing may be found. Prints a
+library in place of the proved static library, or runs its program convert_cells; of what the bench prints and the stage does not, and
+of single entries of a table, the program segment_bench is run beside the oracle. The unchanged sources go first: there nothing may be found. Prints a
 line for each mutant. The status is 0 where every mutant was noticed but those that are argued to change no output.
 """
 
@@ -79,7 +79,10 @@ def compare_converter(folder):
 
 
 def compare_bench(folder):
-    found = difference(ROOT / "oracle" / "compare_bench.sh", folder / "program", RECORDS, SEED)
+    """On random records, and on those that read every entry of the table of the luma tc."""
+    oracle, program = ROOT / "oracle", folder / "program"
+    found = (difference(oracle / "compare_bench.sh", program, RECORDS, SEED)
+             or difference(oracle / "table_records.py", "beside", program))
     return found and f"bench: {found}"
 
 
@@ -130,7 +133,7 @@ def try_one(number, edit):
 def try_unchanged(unchanged):
     """Whether nothing is found in the unchanged sources."""
     print(f"comparison with --accepted {ACCEPTED} --damaged {DAMAGED} --seed {SEED}; of {CONVERTER} with {LISTS} lists, "
-          f"of {BENCH} with {RECORDS} records")
+          f"of {BENCH} with {RECORDS} records and the table's")
     found = [COMPARISONS[crate](folder) for crate, folder in unchanged.items()]
     for crate, what in zip(unchanged, found):
         print(f"the unchanged {crate}, unproved: {what or 'no difference'}", flush=True)
