@@ -19,7 +19,12 @@ pub struct Segments {
     pub negative_qp: u64,
     /// In 4:2:0, of the open ones, the chroma indices 58 to 63, counted for Cb and for Cr: there the Rust does not decide.
     pub above_57: [u64; 6],
+    /// Of luma, the entries of the tc table that the open ones ask for (document 02, C-18), a bit to an entry.
+    entries: [u64; ENTRIES.div_ceil(64)],
 }
+
+/// The table's entries: average QP 0 to 51, bS 1 and 2, tc div2 -6 to 6.
+pub const ENTRIES: usize = 52 * 2 * 13;
 
 /// The first 18 rows of the tc table are 0.
 fn tc_is_zero(index: i32) -> bool {
@@ -37,6 +42,7 @@ impl Segments {
         let offset = 2 * open.tc_offset_div2;
         if plane == 0 {
             self.tc_zero += u64::from(tc_is_zero(open.average + 2 * (open.bs - 1) + offset));
+            self.count_entry(open);
             return;
         }
         for plane in [1, 2] {
@@ -49,7 +55,19 @@ impl Segments {
         }
     }
 
+    fn count_entry(&mut self, open: &Open) {
+        if let Ok(average) = usize::try_from(open.average) {
+            let entry = 26 * average + 13 * (open.bs - 1) as usize + (open.tc_offset_div2 + 6) as usize;
+            self.entries[entry / 64] |= 1 << (entry % 64);
+        }
+    }
+
+    pub fn entries_read(&self) -> u32 {
+        self.entries.iter().map(|bits| bits.count_ones()).sum()
+    }
+
     fn add(&mut self, more: &Segments) {
+        self.entries.iter_mut().zip(more.entries).for_each(|(a, b)| *a |= b);
         self.closed.iter_mut().zip(more.closed).for_each(|(a, b)| *a += b);
         self.above_57.iter_mut().zip(more.above_57).for_each(|(a, b)| *a += b);
         self.open += more.open;

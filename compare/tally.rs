@@ -1,7 +1,7 @@
 //! What a run exercised. All of it is sums, so that it does not matter which thread ran what.
 
 use crate::check::{Agreed, Found};
-use crate::coverage::{Coverage, Segments};
+use crate::coverage::{Coverage, ENTRIES, Segments};
 use crate::damage;
 use crate::ledger::Verdict;
 use crate::lists::Lists;
@@ -224,6 +224,7 @@ impl Tally {
         let skipped = luma.open - luma.tc_zero - self.strong - self.weak;
         println!("luma segments: strong {}, weak {}, skipped {skipped}, tc 0 {}", self.strong, self.weak, luma.tc_zero);
         print_closed(luma);
+        println!("  entries of the table of the luma tc that were asked for: {} of {ENTRIES}", luma.entries_read());
         println!("chroma segments, Cb and Cr: filtered {}, tc 0 {}", self.chroma, chroma.tc_zero);
         print_closed(chroma);
         let indices: Vec<String> = (58..).zip(chroma.above_57).map(|(index, count)| format!("{index}: {count}")).collect();

@@ -27,6 +27,11 @@ def clip3(low, high, value):
     return value
 
 
+def tc_at_8(qPL, bS, tc_div2):
+    """8.7.2.5.3: tc at depth 8"""
+    return TC_TABLE[clip3(0, 53, qPL + 2 * (bS - 1) + 2 * tc_div2)]
+
+
 def refusal(record):
     """The number of the first refusal that applies, or 0."""
     depth, bS, qp_p, qp_q, beta, tc, zero_6, zero_7 = record[:8]
@@ -129,7 +134,7 @@ def answer(record):
     beta = BETA_TABLE[clip3(0, 51, qPL + 2 * beta_div2)] * scale
     tc = 0
     if bS > 0:
-        tc = TC_TABLE[clip3(0, 53, qPL + 2 * (bS - 1) + 2 * tc_div2)] * scale
+        tc = tc_at_8(qPL, bS, tc_div2) * scale
 
     dE, dEp, dEq = decide(beta, tc, lines) if tc > 0 else (0, 0, 0)
     if dE > 0:

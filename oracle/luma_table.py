@@ -12,7 +12,7 @@ import sys
 
 sys.dont_write_bytecode = True
 
-from bench_model import TC_TABLE, clip3
+from bench_model import tc_at_8
 from stored import is_checking, store
 
 FILE = "crates/thresholds/src/luma_table.rt"
@@ -28,7 +28,7 @@ const LUMA_TC: [u8; 1352] = [
 TAIL = """\
 ];
 
-// The array is laid out where this is called: once for a picture, which lends it to all that look into it.
+// The array is laid out where this is called: so once, and it is lent to all that look into it.
 pub fn luma_tc_table() -> [u8; 1352]
     ensures { λ r. ⌜ TcTable r ⌝ }
 {
@@ -41,8 +41,7 @@ def entries():
     for average in range(52):
         for bs in (1, 2):
             for div2 in range(-6, 7):
-                tc = TC_TABLE[clip3(0, 53, average + 2 * (bs - 1) + 2 * div2)]
-                yield f"    {tc}, // QP {average}, bS {bs}, div2 {div2}\n"
+                yield f"    {tc_at_8(average, bs, div2)}, // QP {average}, bS {bs}, div2 {div2}\n"
 
 
 def main():
@@ -51,4 +50,5 @@ def main():
     store({FILE: (HEAD + "".join(lines) + TAIL).encode()}, is_checking(__doc__))
 
 
-main()
+if __name__ == "__main__":
+    main()

@@ -154,9 +154,8 @@ def weak_tally(found):
     return ", ".join(f"{pair}: {counts[pair]}" for pair in sorted(counts))
 
 
-def compare(input_path, expected_path, actual_path):
-    paths = (input_path, expected_path, actual_path)
-    data, expected, actual = (open(path, "rb").read() for path in paths)
+def compare(data, expected, actual):
+    """Tallies the answers to some records; 1 at a difference, else 0."""
     wanted = answers(expected.decode())
     assert len(wanted) == -(-len(data) // RECORD), "the oracle did not answer each record"
     print(f"{len(wanted)} records; {tally(wanted)}")
@@ -183,7 +182,7 @@ def main():
     elif sys.argv[1:] == ["expect"]:
         sys.stdout.buffer.write(run_oracle("bench", sys.stdin.buffer.read())[0])
     elif sys.argv[1:2] == ["compare"] and len(sys.argv) == 5:
-        sys.exit(compare(*sys.argv[2:]))
+        sys.exit(compare(*(open(path, "rb").read() for path in sys.argv[2:])))
     else:
         sys.exit(__doc__)
 

@@ -6,10 +6,10 @@
     table_records.py beside PROGRAM  PROGRAM beside the oracle, on every average QP that a picture can have at every
                                      depth, with both bS and every tc div2; status 1 at a difference
 
-The lines of a record are flat, so that a first line's tc is all that tells one from another. Stored are the 1,352
-entries in the table's order, at depth 8; then every negative average, at depth 16, with both bS and both ends of tc
-div2; then one step past each end. The outputs are what the oracle prints (run build.sh first). The script stops where
-a tc is not document 01's, or where the Python model does not answer the same.
+The lines of a record are flat: what it is for is the tc of the first line. Stored are the 1,352 entries in the table's
+order, at depth 8; then every negative average, at depth 16, with both bS and both ends of tc div2; then one step past
+each end. The outputs are what the oracle prints (run build.sh first). The script stops where a tc is not document 01's,
+or where the Python model does not answer the same.
 """
 
 import subprocess
@@ -18,8 +18,8 @@ import sys
 sys.dont_write_bytecode = True
 
 import bench_model
-from bench_model import TC_TABLE, clip3
-from records import RECORD, answers, record, tally
+from bench_model import tc_at_8
+from records import RECORD, answers, compare, record, tally
 from stored import is_checking, run_oracle, stop, store
 
 FLAT = 4 * [8 * [0]]
@@ -28,14 +28,17 @@ OFFSETS = range(-6, 7)
 
 
 class Look:
-    """A record with this average QP, of one QP on both sides or of two that differ by 1, and the tc that is due."""
+    """A record with this average QP, of two QPs that lie up to 7 apart to each side, and the tc that is due."""
 
     def __init__(self, depth, average, bs, div2):
         lowest = -6 * (depth - 8)
-        qp_p = average - (average - lowest + div2) % 2 if average > lowest else average
-        assert qp_p >= lowest and (qp_p + average + 1) >> 1 == average
-        self.data = record(FLAT, depth=depth, bs=bs, qp_p=qp_p, qp_q=average, beta=6, tc=div2)
-        self.tc = TC_TABLE[clip3(0, 53, average + 2 * (bs - 1) + 2 * div2)] << (depth - 8)
+        apart = min((3 * average + 5 * bs + div2) % 8, average - lowest, 51 - average)
+        rounded = (average + div2) % 2 if average - apart > lowest else 0
+        qps = [average - apart - rounded, average + apart]
+        assert (sum(qps) + 1) >> 1 == average and lowest <= qps[0] <= qps[1] <= 51
+        qp_p, qp_q = qps if (average + bs + div2 // 2) % 2 else reversed(qps)
+        self.data = record(FLAT, depth=depth, bs=bs, qp_p=qp_p, qp_q=qp_q, beta=6, tc=div2)
+        self.tc = tc_at_8(average, bs, div2) << (depth - 8)
 
     def check(self, answer):
         assert int(answer[0].split(" ")[1]) == self.tc, (answer, self.tc)
@@ -67,9 +70,12 @@ def negatives():
 
 
 def past_the_ends():
-    """Average 52 and, at depth 16, -49; bS 0 and 3; tc div2 -7 and 7."""
-    yield Past("refused 9", header={2: 64 + 52, 3: 64 + 52})
-    yield Past("refused 9", depth=16, header={2: 64 - 49, 3: 64 - 49})
+    """At every depth a QP one below the least and one above 51, on P, on Q and on both sides; then bS 0 and 3, and tc
+    div2 -7 and 7."""
+    for depth in range(8, 17):
+        for qp, within in [(-6 * (depth - 8) - 1, -6 * (depth - 8)), (52, 51)]:
+            for qp_p, qp_q in [(qp, within), (within, qp), (qp, qp)]:
+                yield Past("refused 9", depth=depth, qp_p=qp_p, qp_q=qp_q)
     yield Past("skip 0 0 0", bs=0)
     yield Past("refused 9", bs=3)
     yield Past("refused 7", header={5: 255})
@@ -93,34 +99,30 @@ def run(cases):
     assert len(found) == len(cases)
     for case, answer in zip(cases, found):
         case.check(answer)
-    print(f"{len(cases)} records; {tally(found)}")
     return data, output
 
 
 def beside(program):
-    """Whether PROGRAM prints what the oracle prints."""
+    """1 where PROGRAM does not print what the oracle prints, else 0."""
     data, output = run([*every_average(), *past_the_ends()])
     try:
-        done = subprocess.run([program], input=data, capture_output=True)
+        done = subprocess.run([program], input=data, stdout=subprocess.PIPE)
     except OSError as error:
         stop(f"{program} cannot be run: {error.strerror}")
-    if done.returncode == 0 and done.stdout == output:
-        print("no difference")
-        return True
-    pairs = zip(answers(output.decode()), answers(done.stdout.decode(errors="replace")))
-    number, (wanted, given) = next((pair for pair in enumerate(pairs) if pair[1][0] != pair[1][1]), (0, ([""], [""])))
-    head = list(data[number * RECORD:number * RECORD + 6])
-    print(f"DIFFERENCE: status {done.returncode}; at header {head} `{given[0]}` for `{wanted[0]}`")
-    return False
+    if done.returncode:
+        print(f"DIFFERENCE: PROGRAM ended with status {done.returncode}")
+        return 1
+    return compare(data, output, done.stdout)
 
 
 def main():
     if sys.argv[1:2] == ["beside"] and len(sys.argv) == 3:
-        sys.exit(0 if beside(sys.argv[2]) else 1)
+        sys.exit(beside(sys.argv[2]))
     checking = is_checking(__doc__)
     cases = [*entries(), *negatives(), *past_the_ends()]
     assert sum(isinstance(case, Look) for case in cases) == 1352 + 192
     data, output = run(cases)
+    print(f"{len(cases)} records; {tally(answers(output.decode()))}")
     store({"crates/bench_table/stdin": data, "crates/bench_table/stdout": output}, checking)
 
 

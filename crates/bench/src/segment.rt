@@ -1,6 +1,6 @@
 // The segment of a record that is not refused: thresholds, decision, the lines after filtering, and their text.
 ghost use mathlib.Core.Path.{_≡_};
-ghost use Prim.Native.Nat.{_≤_};
+ghost use Prim.Native.Nat.{_+_, _≤_};
 ghost use lib.ListN.{length};
 ghost use Rattle.text.specs.Text.{Puts};
 ghost use Rattle.lines.specs.Answer.{valuesOf, answerOf};
@@ -28,7 +28,7 @@ pub(crate) struct Thresholds {
 fn tc_of(tcs: &[u8; 1352], depth: u32, average: u8, bs: u8, offset: u8) -> u16
     requires { ⌜ TcTable (now tcs) ⌝ }
     requires { ⌜ (8 ≤ depth) × (depth ≤ 16) ⌝ }
-    requires { ⌜ (average ≤ 115) × (bs ≤ 2) × (offset ≤ 12) ⌝ }
+    requires { ⌜ (average ≤ 64 + 51) × (bs ≤ 2) × (offset ≤ 12) ⌝ }
     ensures { λ r. ⌜ r ≡ tcOrZero depth average bs offset ⌝ }
 {
     if bs == 0 {
@@ -38,7 +38,7 @@ fn tc_of(tcs: &[u8; 1352], depth: u32, average: u8, bs: u8, offset: u8) -> u16
     }
 }
 
-// The table is laid out for each record: beside the reading of one it costs nothing that shows.
+// The table is laid out for each record, which is little beside the reading of one.
 fn thresholds_of(h: Head) -> Thresholds
     requires { ⌜ InRange h ⌝ }
     ensures { λ r. ⌜ r ≡ thresholdsOf h ⌝ }

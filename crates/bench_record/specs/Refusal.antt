@@ -60,7 +60,7 @@ pub record InRange (h : Head) : Type 0 where
   pub depth-least : 8 ≤ h .depth
   pub depth-most : h .depth ≤ 16
   pub bs-most : h .bs ≤ 2
-  pub qpp-most : h .qpp ≤ 115
-  pub qpq-most : h .qpq ≤ 115
+  pub qpp-most : h .qpp ≤ 64 + 51
+  pub qpq-most : h .qpq ≤ 64 + 51
   pub beta-most : h .beta ≤ 12
   pub tc-most : h .tc ≤ 12

@@ -1,5 +1,5 @@
 -- The enum and the structs of the code: what each says in the definition's terms.
-use Prim.Native.Nat.{ℕ, _≤_}
+use Prim.Native.Nat.{ℕ, _+_, _≤_}
 use mathlib.Core.Path.{_≡_}
 use mathlib.Core.Bool.{cond}
 use mathlib.Core.List.{List}
@@ -34,10 +34,10 @@ pub record Sound (k : Component) : Type 0 where
   pub depth-high : k .depth ≤ 16
   pub largest-is : k .largest ≡ largestAt (k .depth)
 
--- what a segment of a picture that was checked has: where its bS is not 0 and its average QP not negative, the table of
--- the luma tc has an entry for it
-pub record InTable (p q : Cell) (sliceQ : Slice) (bS : ℕ) : Type 0 where
-  pub qp-p : p .qp ≤ 115
-  pub qp-q : q .qp ≤ 115
+-- what a segment of a picture that was checked has; a QP's byte is 64 more. Where its bS is not 0 and its average QP not
+-- negative, the table of the luma tc has an entry for it.
+pub record SegmentInRange (p q : Cell) (sliceQ : Slice) (bS : ℕ) : Type 0 where
+  pub qp-p : p .qp ≤ 64 + 51
+  pub qp-q : q .qp ≤ 64 + 51
   pub bs-most : bS ≤ 2
   pub tc-most : sliceQ .tc ≤ 12

@@ -11,14 +11,14 @@ use thresholds::luma_tc;
 ghost use mathlib.Core.Path.{_≡_};
 ghost use Prim.Native.Nat.{_≤_};
 ghost use Rattle.ints.specs.Int.{_⊖_};
-ghost use Rattle.filter.specs.Answer.{InTable, Sound, chromaOf, lumaOf};
+ghost use Rattle.filter.specs.Answer.{SegmentInRange, Sound, chromaOf, lumaOf};
 ghost use Rattle.filter.specs.Segment.{chromaFilter, lumaFilter};
 ghost use Rattle.thresholds.specs.LumaTable.{TcTable};
 
 pub fn luma_filter(tcs: &[u8; 1352], k: Component, p: Cell, q: Cell, s: Slice, bs: u8) -> LumaFilter
     requires { ⌜ Sound k ⌝ }
     requires { ⌜ TcTable (now tcs) ⌝ }
-    requires { ⌜ (1 ≤ bs) × InTable p q s bs ⌝ }
+    requires { ⌜ (1 ≤ bs) × SegmentInRange p q s bs ⌝ }
     ensures { λ r. ⌜ lumaOf r ≡ lumaFilter (k .depth) p q s bs ⌝ }
 {
     let average = average_qp(p.qp, q.qp);

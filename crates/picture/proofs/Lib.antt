@@ -1,5 +1,6 @@
 pub mod Accepted
 pub mod Example
+pub mod InRange
 pub mod Index
 pub mod Ledger
 pub mod Records

@@ -12,7 +12,7 @@ use Rattle.filter.specs.declared.ChromaFilter.{ChromaFilter}
 use Rattle.filter.specs.declared.Component.{Component}
 use Rattle.filter.specs.declared.LumaFilter.{LumaFilter}
 use Rattle.filter.specs.declared.SliceGate.the-variants.{Closed, Open}
-use Rattle.filter.specs.Answer.{InTable, Sound, chromaOf, lumaOf, sliceGate}
+use Rattle.filter.specs.Answer.{SegmentInRange, Sound, chromaOf, lumaOf, sliceGate}
 use Rattle.filter.specs.Kernel.{Filter, luma, chroma, tcOf}
 use Rattle.filter.specs.Segment.{slicesOpen, lumaFilter, chromaFilter}
 use Rattle.picture.specs.declared.Cell.{Cell}
@@ -76,11 +76,11 @@ told S s true e = (refl, cc)
 told S s false e = absurd (let z : _≡_ {A = ℕ} 0 1 = cc in omega arith)
 
 -- the slice of an open gate is Q's, so what is in range by that one is so by this
-pub open-in-table : (slices : List ℕ) (p q : Cell) (bS : ℕ) (s : Slice) → sliceGate slices p q ≡ Open s
-    → InTable p q (sliceAt slices (q .slice)) bS → InTable p q s bS
+pub open-in-range : (slices : List ℕ) (p q : Cell) (bS : ℕ) (s : Slice) → sliceGate slices p q ≡ Open s
+    → SegmentInRange p q (sliceAt slices (q .slice)) bS → SegmentInRange p q s bS
 unfolding sliceGate
-open-in-table slices p q bS s e h =
-    subst (λ (t : Slice). InTable p q t bS) (told _ s (slicesOpen p q (sliceAt slices (q .slice))) e .1) h
+open-in-range slices p q bS s e h =
+    subst (λ (t : Slice). SegmentInRange p q t bS) (told _ s (slicesOpen p q (sliceAt slices (q .slice))) e .1) h
 
 module _ (k : Component) (slices : List ℕ) (v : Sides) (bS : ℕ) where
   abbrev S : Slice

@@ -7,7 +7,7 @@ use native.Mathlib.Nat.{mul-le-mul}
 use native.Mathlib.Omega.{arith}
 use lib.ListN.{length}
 use Rattle.filter.specs.declared.Component.{Component}
-use Rattle.filter.specs.Answer.{InTable}
+use Rattle.filter.specs.Answer.{SegmentInRange}
 use Rattle.filter.specs.Segment.{Direction, vertical, horizontal, bsOf, positionP}
 use Rattle.picture.specs.declared.Cell.{Cell}
 use Rattle.picture.specs.Cell.{cellAt, cellNumber}
@@ -82,12 +82,12 @@ module _ (k : Component) (f : Frame) {cells slices tcs : List ℕ} (ready : Read
   strength vertical = ready .bsv-most _ inside
   strength horizontal = ready .bsh-most _ inside
 
-  pub in-table : (d : Direction) (starts : List ℕ) (v : Sides)
+  pub in-range : (d : Direction) (starts : List ℕ) (v : Sides)
       → v ≡ sidesAt d cells starts (f .«log2_ctb») w (positionOf x y)
-      → InTable (v .p) (v .q) (sliceAt slices (v .q .slice)) (bsOf d (v .q))
+      → SegmentInRange (v .p) (v .q) (sliceAt slices (v .q .slice)) (bsOf d (v .q))
   unfolding sidesAt
-  in-table d starts v e =
-      subst (λ (s : Sides). InTable (s .p) (s .q) (sliceAt slices (s .q .slice)) (bsOf d (s .q))) (sym e)
+  in-range d starts v e =
+      subst (λ (s : Sides). SegmentInRange (s .p) (s .q) (sliceAt slices (s .q .slice)) (bsOf d (s .q))) (sym e)
       (record {
         qp-p = ready .qp-most _ (p-inside d);
         qp-q = ready .qp-most _ inside;

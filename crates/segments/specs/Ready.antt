@@ -1,5 +1,5 @@
 -- What a pass may rely on: the facts of an accepted picture that its segments and its loops need.
-use Prim.Native.Nat.{ℕ, _*_, _%_, _≤_, _<_}
+use Prim.Native.Nat.{ℕ, _+_, _*_, _%_, _≤_, _<_}
 use mathlib.Core.Path.{_≡_}
 use mathlib.Core.List.{List}
 use lib.ListN.{length}
@@ -30,8 +30,8 @@ pub record Ready (k : Component) (f : Frame) (cells slices tcs : List ℕ) : Typ
   pub down : (y : ℕ) → y < f .rows → toLuma (downFor k) y < 4 * f .«cell_rows»
   pub cells-long : 8 * (f .«cell_rows» * f .«cell_columns» .0) ≤ length cells
   pub known : (n : ℕ) → n < f .«cell_rows» * f .«cell_columns» .0 → (cellAt cells n) .slice < sliceCount slices
-  -- the cells and the slices in range, and the table of the luma tc, which has an entry for all that is in range
-  pub qp-most : (n : ℕ) → n < f .«cell_rows» * f .«cell_columns» .0 → (cellAt cells n) .qp ≤ 115
+  -- the cells and the slices in range, a QP's byte being 64 more; and the table of the luma tc
+  pub qp-most : (n : ℕ) → n < f .«cell_rows» * f .«cell_columns» .0 → (cellAt cells n) .qp ≤ 64 + 51
   pub bsv-most : (n : ℕ) → n < f .«cell_rows» * f .«cell_columns» .0 → (cellAt cells n) .bsv ≤ 2
   pub bsh-most : (n : ℕ) → n < f .«cell_rows» * f .«cell_columns» .0 → (cellAt cells n) .bsh ≤ 2
   pub tc-most : (n : ℕ) → n < sliceCount slices → (sliceAt slices n) .tc ≤ 12

@@ -11,7 +11,7 @@ use picture::Slice;
 ghost use mathlib.Core.Path.{_≡_};
 ghost use mathlib.Core.Bool.{cond};
 ghost use Prim.Native.Nat.{_≤_, _<_};
-ghost use Rattle.filter.specs.Answer.{InTable, Sound};
+ghost use Rattle.filter.specs.Answer.{SegmentInRange, Sound};
 ghost use Rattle.picture.specs.Lent.{given};
 ghost use Rattle.picture.specs.Slice.{sliceAt, sliceCount};
 ghost use Rattle.segments.specs.Between.{betweenFor, filterFor, optionOf, positive};
@@ -28,7 +28,7 @@ fn least_bs(luma: bool) -> u8
 fn open_filter(tcs: &[u8; 1352], k: Component, p: Cell, q: Cell, s: Slice, bs: u8) -> Segment
     requires { ⌜ Sound k ⌝ }
     requires { ⌜ TcTable (now tcs) ⌝ }
-    requires { ⌜ (1 ≤ bs) × InTable p q s bs ⌝ }
+    requires { ⌜ (1 ≤ bs) × SegmentInRange p q s bs ⌝ }
     ensures { λ r. ⌜ optionOf (k .largest) r ≡ positive (filterFor k p q s bs) ⌝ }
 {
     if k.luma {
@@ -59,7 +59,7 @@ pub(crate) fn segment_filter(
     requires { ⌜ Sound k ⌝ }
     requires { ⌜ TcTable (now tcs) ⌝ }
     requires { ⌜ v .q .slice < sliceCount (now slices) ⌝ }
-    requires { ⌜ InTable (v .p) (v .q) (sliceAt (now slices) (v .q .slice)) bs ⌝ }
+    requires { ⌜ SegmentInRange (v .p) (v .q) (sliceAt (now slices) (v .q .slice)) bs ⌝ }
     ensures { λ r. ⌜ optionOf (k .largest) r ≡ betweenFor k (given slices) v bs ⌝ }
 {
     if bs < least_bs(k.luma) {

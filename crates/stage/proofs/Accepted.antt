@@ -10,9 +10,8 @@ use lib.Dec.{eqb}
 use lib.ListN.{length}
 use Rattle.filter.specs.declared.Component as Code
 use Rattle.filter.specs.Answer.{Sound}
-use Rattle.ints.proofs.Bounds.{most-out}
-use Rattle.picture.specs.Accepted.{Accepted, CellOk, PictureOk}
-use Rattle.picture.specs.Cell.{cellAt, cellByte}
+use Rattle.picture.specs.Accepted.{Accepted, PictureOk}
+use Rattle.picture.specs.Cell.{cellCount}
 use Rattle.picture.specs.Picture.{Picture, Planes, Settings, planeOf}
 use Rattle.picture.specs.Scale.{
   Component,
@@ -31,7 +30,7 @@ use Rattle.picture.specs.Scale.{
   toLuma,
   cellOf,
 }
-use Rattle.picture.specs.Slice.{sliceAt, sliceCount}
+use Rattle.picture.proofs.InRange.{cell-slice, cell-qp, cell-bsv, cell-bsh, slice-tc}
 use Rattle.restore.specs.declared.Restoration.{Restoration}
 use Rattle.restore.specs.Restored.{Restorable, AnySuppressed}
 use Rattle.restore.proofs.Restored.{all-cells}
@@ -138,30 +137,18 @@ module _ (p : Picture) (ok : PictureOk p) (o : ℕ) (c : Component) (present : P
   cells-long : 8 * (cellOf (p .height) * cellOf (p .width)) ≡ length (p .cells)
   cells-long = omega (arith, ok .cells-long, mul-comm (cellOf (p .height)) (cellOf (p .width)))
 
-  -- a cell that the passes look up was checked
-  checked : (n : ℕ) → n < cellOf (p .height) * cellOf (p .width)
-      → CellOk (t .luma-depth) (p .slices) (cellByte (p .cells) n)
-  checked n h = ok .cells n (omega (arith, mul-comm (cellOf (p .height)) (cellOf (p .width))))
+  -- a cell by the rows of cells is one of the picture's
+  counted : {n : ℕ} → n < cellOf (p .height) * cellOf (p .width) → n < cellCount p
+  counted h = omega (arith, mul-comm (cellOf (p .height)) (cellOf (p .width)))
 
-  known : (n : ℕ) → n < cellOf (p .height) * cellOf (p .width) → (cellAt (p .cells) n) .slice < sliceCount (p .slices)
-  unfolding cellAt
-  known n h = checked n h .slice
+  rows-most : frameFor p c .rows ≤ 8192
+  rows-most = omega (arith, ok .height .most, no-more (samplingDown (t .format) c) (p .height))
 
-  qp-most : (n : ℕ) → n < cellOf (p .height) * cellOf (p .width) → (cellAt (p .cells) n) .qp ≤ 115
-  unfolding cellAt
-  qp-most n h = most-out 51 _ 64 (checked n h .qp-high)
+  wide : cellOf (p .width) ≤ 2048
+  wide = omega (arith, ok .width .most)
 
-  bsv-most : (n : ℕ) → n < cellOf (p .height) * cellOf (p .width) → (cellAt (p .cells) n) .bsv ≤ 2
-  unfolding cellAt
-  bsv-most n h = checked n h .bsv
-
-  bsh-most : (n : ℕ) → n < cellOf (p .height) * cellOf (p .width) → (cellAt (p .cells) n) .bsh ≤ 2
-  unfolding cellAt
-  bsh-most n h = checked n h .bsh
-
-  tc-most : (n : ℕ) → n < sliceCount (p .slices) → (sliceAt (p .slices) n) .tc ≤ 12
-  unfolding sliceAt
-  tc-most n h = ok .slices .records n h .tc
+  high : cellOf (p .height) ≤ 2048
+  high = omega (arith, ok .height .most)
 
   pub ready : {tcs : List ℕ} → TcTable tcs → Ready (componentFor t o c) (frameFor p c) (p .cells) (p .slices) tcs
   ready table =
@@ -174,20 +161,20 @@ module _ (p : Picture) (ok : PictureOk p) (o : ℕ) (c : Component) (present : P
         columns4 = fours a (p .width) (ok .width .eights);
         rows4 = fours d (p .height) (ok .height .eights);
         columns-most = omega (arith, ok .width .most, no-more a (p .width));
-        rows-most = omega (arith, ok .height .most, no-more d (p .height));
+        rows-most = rows-most;
         band4 = fours d (2 ^ t .log2-ctb) (z .0);
         band-some = some-rows d (2 ^ t .log2-ctb) (sampled t c present .1) (z .1);
         band-most = omega (arith, z, no-more d (2 ^ t .log2-ctb));
-        wide = omega (arith, ok .width .most);
-        high = omega (arith, ok .height .most);
+        wide = wide;
+        high = high;
         across = columns-inside;
         down = rows-inside;
         cells-long = omega (arith, cells-long);
-        known = known;
-        qp-most = qp-most;
-        bsv-most = bsv-most;
-        bsh-most = bsh-most;
-        tc-most = tc-most;
+        known = λ n h. cell-slice p ok n (counted h);
+        qp-most = λ n h. cell-qp p ok n (counted h);
+        bsv-most = λ n h. cell-bsv p ok n (counted h);
+        bsh-most = λ n h. cell-bsh p ok n (counted h);
+        tc-most = slice-tc p ok;
         tc-table = table;
       }
     where
@@ -208,9 +195,9 @@ module _ (p : Picture) (ok : PictureOk p) (o : ℕ) (c : Component) (present : P
         columns-are =
             by-across (λ s. frameFor p c .columns ≡ cellOf (p .width) * fromLuma s 4)
             (all-cells a (p .width) s (ok .width .eights));
-        rows-most = omega (arith, ok .height .most, no-more (samplingDown (t .format) c) (p .height));
-        wide = omega (arith, ok .width .most);
-        high = omega (arith, ok .height .most);
+        rows-most = rows-most;
+        wide = wide;
+        high = high;
         down = rows-inside;
         plane-long = long ∙ mul-comm (frameFor p c .columns) (frameFor p c .rows);
         original-long = ok .originals c ∙ mul-comm (frameFor p c .columns) (frameFor p c .rows);

@@ -1,5 +1,6 @@
 -- Each table one row past both ends: what the definitions give at index -1, 0, last and last + 1. The code cannot read
--- past an end: `beta_row`, `tc_row`, `qpc_row` and `luma_tc` require an index inside their table.
+-- past an end: `beta_row`, `tc_row` and `qpc_row` require an index inside their table, and so does `luma_tc`, but for
+-- negative averages, of which it reads nothing.
 use mathlib.Core.Path.{_≡_, refl}
 use lib.ListN.{length}
 use lib.IntN.{ℤ, pos, negsuc}
@@ -52,7 +53,7 @@ pub tc-values :
 unfolding lumaTc tcIndex scaled TC natOf clip3 lt _⊞_ _⊟_ _⊠_
 tc-values = (refl, refl, refl, refl, refl)
 
--- The table of the luma tc (C-18): its first and its last place, and the first past it. An offset or a bS past its end
+-- The table of the luma tc (C-18): its first and its last place, and the first past it. An offset or a bS past an end
 -- would be another row's entry, so `luma_tc` asks for a bS of 1 or 2, an offset of 12 at the most and an average of 51
 -- at the most.
 pub place-ends :
@@ -60,15 +61,16 @@ pub place-ends :
     × (tcPlace 51 2 12 ≡ 1351)
     × (tcPlace 52 1 0 ≡ 1352)
     × (tcPlace 30 1 13 ≡ tcPlace 30 2 0)
+    × (tcPlace 30 0 0 ≡ tcPlace 30 1 0)
     × (tcPlace 30 3 0 ≡ tcPlace 31 1 0)
 unfolding tcPlace
-place-ends = (refl, refl, refl, refl, refl)
+place-ends = (refl, refl, refl, refl, refl, refl)
 
--- tC at depth 8 of the averages -1, 0, 51 and 52, each at tc div2 -6 and 6, for bS 1 and for bS 2. No picture has the
--- last average: a QP of 52 is refused.
+-- tC of the averages -1, 0, 51 and 52, each at tc div2 -6 and 6, for bS 1 and for bS 2: at depth 8, and -1 at depth 9,
+-- the least that has it. No picture has the last one: a QP of 52 is refused.
 pub average-ends :
-    (lumaTc 8 (negsuc 0) (pos 1) (negsuc 5) ≡ 0) × (lumaTc 8 (negsuc 0) (pos 1) (pos 6) ≡ 0)
-    × (lumaTc 8 (negsuc 0) (pos 2) (negsuc 5) ≡ 0) × (lumaTc 8 (negsuc 0) (pos 2) (pos 6) ≡ 0)
+    (lumaTc 9 (negsuc 0) (pos 1) (negsuc 5) ≡ 0) × (lumaTc 9 (negsuc 0) (pos 1) (pos 6) ≡ 0)
+    × (lumaTc 9 (negsuc 0) (pos 2) (negsuc 5) ≡ 0) × (lumaTc 9 (negsuc 0) (pos 2) (pos 6) ≡ 0)
     × (lumaTc 8 (pos 0) (pos 1) (negsuc 5) ≡ 0) × (lumaTc 8 (pos 0) (pos 1) (pos 6) ≡ 0)
     × (lumaTc 8 (pos 0) (pos 2) (negsuc 5) ≡ 0) × (lumaTc 8 (pos 0) (pos 2) (pos 6) ≡ 0)
     × (lumaTc 8 (pos 51) (pos 1) (negsuc 5) ≡ 5) × (lumaTc 8 (pos 51) (pos 1) (pos 6) ≡ 24)

@@ -55,8 +55,8 @@ table-made entries long test = record { long = long; entry = at }
         rw (average, row, offset) (omega arith) in
         eqb-true _ _ passed ∙ ap (λ (n : ℕ). getD TC n 0) index ∙ sym (clamp-rule q s o)
 
--- the place of what stands at a place
-place-back : (k : ℕ) → tcPlace (k / 26) (k / 13 % 2 + 1) (k % 13) ≡ k
+-- every place below 1,352 is that of an average, a bS and an offset: the rule leaves no entry out
+pub place-back : (k : ℕ) → tcPlace (k / 26) (k / 13 % 2 + 1) (k % 13) ≡ k
 unfolding tcPlace
 place-back k = let r : k / 26 ≡ k / 13 / 2 = omega arith in omega arith
 
@@ -115,7 +115,7 @@ low-gives-0 d s qPL offset low hs ho =
     low
     ho
 
--- C-18: "A negative average always gives 0"
+-- C-18: "A negative average always gives 0": whatever the depth, bS up to 2 and tc div2 up to 6
 pub negative-gives-0 : (depth bS : ℕ) (qPL offset : ℤ) → lt qPL (pos 0) ≡ true → bS ≤ 2 → offset ≤ℤ pos 6
     → lumaTc depth qPL (pos bS) offset ≡ 0
 negative-gives-0 d s qPL offset negative hs ho =

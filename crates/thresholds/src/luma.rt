@@ -2,7 +2,7 @@
 use crate::tables::beta_row;
 use crate::tables::scale;
 ghost use mathlib.Core.Path.{_≡_};
-ghost use Prim.Native.Nat.{_≤_};
+ghost use Prim.Native.Nat.{_+_, _≤_};
 ghost use lib.IntN.{pos};
 ghost use Rattle.ints.specs.Int.{_⊖_};
 ghost use Rattle.thresholds.specs.Luma.{averageQp, lumaBeta, lumaTc};
@@ -29,7 +29,7 @@ pub fn luma_beta(depth: u32, average: u8, offset: u8) -> u16
 pub fn luma_tc(tcs: &[u8; 1352], depth: u32, average: u8, bs: u8, offset: u8) -> u16
     requires { ⌜ TcTable (now tcs) ⌝ }
     requires { ⌜ (8 ≤ depth) × (depth ≤ 16) ⌝ }
-    requires { ⌜ (average ≤ 115) × (1 ≤ bs) × (bs ≤ 2) × (offset ≤ 12) ⌝ }
+    requires { ⌜ (average ≤ 64 + 51) × (1 ≤ bs) × (bs ≤ 2) × (offset ≤ 12) ⌝ }
     ensures { λ r. ⌜ r ≡ lumaTc depth (average ⊖ 64) (pos bs) (offset ⊖ 6) ⌝ }
 {
     if average < 64 {

@@ -15,6 +15,7 @@ averaged c = c .before .before
 abbrev laid-out : tie.After-average-qp → tie.After-luma-tc-table
 laid-out c = c .before .before
 
+-- the offset by both bounds, so that the other offset in its place would be refused for its value alone
 tc-of-requires : tie.Need-tc-of-requires
 tc-of-requires c κs =
     let average = averaged c in

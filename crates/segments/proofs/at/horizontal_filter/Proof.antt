@@ -11,7 +11,7 @@ use Rattle.picture.specs.declared.Cell.{Cell}
 use Rattle.segments.specs.Listed.{Listed}
 use Rattle.segments.specs.Sides.{cellIn, positionFor, positionOf}
 use Rattle.segments.proofs.Looks.{q-is, segment-made}
-use Rattle.segments.proofs.Positions.{listed, past, slice-listed, in-table}
+use Rattle.segments.proofs.Positions.{listed, past, slice-listed, in-range}
 use Rattle.segments.proofs.at.horizontal_filter.Statement.{statement}
 use Rattle.segments.proofs.at.horizontal_filter.Tie as tie
 
@@ -67,7 +67,7 @@ segment-filter-requires c κs =
               (m .before .luma-column-at .ensures) (m .luma-row-at .ensures) (omega (arith, call m .pre .1))
               (omega (arith, call m .pre .1)) _
               (q-is horizontal _ starts _ _ (place m) sides),
-          in-table (call m .args .k) (call m .args .f) (call m .pre .0) (call m .args .l + 1) (call m .args .e)
+          in-range (call m .args .k) (call m .args .f) (call m .pre .0) (call m .args .l + 1) (call m .args .e)
               (m .before .luma-column-at .ensures) (m .luma-row-at .ensures) (omega (arith, call m .pre .1))
               (omega (arith, call m .pre .1)) horizontal starts _ sides,
         ),

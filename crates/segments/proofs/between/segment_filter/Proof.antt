@@ -4,7 +4,7 @@ use mathlib.Core.Path.{sym, _∙_}
 use native.Mathlib.Omega.{arith}
 use borrow.Author.Needs.{needs}
 use Rattle.segments.specs.Between.{leastFor}
-use Rattle.segments.proofs.Gates.{closed-bs, closed-tile, closed-slices, opened, least-some, open-in-table}
+use Rattle.segments.proofs.Gates.{closed-bs, closed-tile, closed-slices, opened, least-some, open-in-range}
 use Rattle.segments.proofs.between.segment_filter.Statement.{statement}
 use Rattle.segments.proofs.between.segment_filter.Tie as tie
 
@@ -32,7 +32,7 @@ open-filter-requires c κs =
     let bs = at-tile (gate .before) in
     let call = at-bs bs in
     let gate-open = sym (gate .slice-gate .ensures) ∙ told .s .given .1 in
-    let segment = open-in-table _ _ _ _ _ gate-open (call .pre .1 .1 .1) in (
+    let segment = open-in-range _ _ _ _ _ gate-open (call .pre .1 .1 .1) in (
       call .pre .0,
       (call .pre .1 .0, (omega (arith, bs .before .least-bs .ensures, least-some (call .args .k)), segment)),
     )
