@@ -6,9 +6,10 @@
     compare/mutants.py --places         builds nothing: does each mutant's place stand once in the sources?
 
 A mutant is a copy of the sources under target/mutants changed at one place, built without proof (unproved.py). The comparison loads its
-library in place of the proved static library, or runs its program convert_cells; of what the bench prints and the stage does not, and
-of single entries of a table, the program segment_bench is run beside the oracle. The unchanged sources go first: there nothing may be found. Prints a
-line for each mutant. The status is 0 where every mutant was noticed but those that are argued to change no output.
+library in place of the proved static library, or runs its program convert_cells. Of what the bench prints and the stage does not, and of
+single entries of a table, the program segment_bench is run beside the oracle, on random records and on those that read each entry. The
+unchanged sources go first: there nothing may be found. Prints a line for each mutant. The status is 0 where every mutant was noticed but
+those that are argued to change no output.
 """
 
 import os
