@@ -25,10 +25,9 @@ import sys
 
 sys.dont_write_bytecode = True
 
-import bench_model
 from bench_model import BETA_TABLE, TC_TABLE
-from records import RECORD, Random, answers, random_record, record, tally
-from stored import is_checking, run_oracle, store
+from records import Random, answered, random_record, record, tally
+from stored import is_checking, store
 
 NAMES = ["p3", "p2", "p1", "p0", "q0", "q1", "q2", "q3"]
 
@@ -373,23 +372,11 @@ GROUPS = [figures, average, tables, strengths, depths, lowest_qps, largest_sampl
           side_flags, lines_0_and_3, clipping, deltas, at_random, last]
 
 
-def run(cases):
-    """The input, the oracle's output, and the output split into answers."""
-    data = b"".join(case.data for case in cases)
-    output, _ = run_oracle("bench", data)
-    found = answers(output.decode())
-    assert found == [bench_model.answer(data[start:start + RECORD]) for start in range(0, len(data), RECORD)]
-    assert len(found) == len(cases)
-    for case, answer in zip(cases, found):
-        case.check(answer)
-    return data, output, found
-
-
 def main():
     checking = is_checking(__doc__)
     cases = [case for group in GROUPS for case in group()]
-    s1_data, s1_output, _ = run([S1])
-    data, output, found = run(cases)
+    s1_data, s1_output, _ = answered([S1])
+    data, output, found = answered(cases)
     listing = "".join(f"{number:3}  {answer[0]:15}  {case.name}\n"
                       for number, (case, answer) in enumerate(zip(cases, found), 1))
     files = {"crates/segment_bench/stdin": s1_data, "crates/segment_bench/stdout": s1_output,

@@ -12,6 +12,7 @@ from collections import Counter
 
 sys.dont_write_bytecode = True
 
+import bench_model
 from stored import run_oracle
 
 RECORD = 72
@@ -133,6 +134,19 @@ def answers(text):
         found.append(lines[at:at + size])
         at += size
     return found
+
+
+def answered(cases):
+    """The input of cases with `data`, the oracle's output, and its answers, each of which its case has to `check`. The
+    model must give the same."""
+    data = b"".join(case.data for case in cases)
+    output, _ = run_oracle("bench", data)
+    found = answers(output.decode())
+    assert found == [bench_model.answer(data[start:start + RECORD]) for start in range(0, len(data), RECORD)]
+    assert len(found) == len(cases)
+    for case, answer in zip(cases, found):
+        case.check(answer)
+    return data, output, found
 
 
 def kind_of(answer):

@@ -17,10 +17,9 @@ import sys
 
 sys.dont_write_bytecode = True
 
-import bench_model
 from bench_model import tc_at_8
-from records import RECORD, answers, compare, record, tally
-from stored import is_checking, run_oracle, stop, store
+from records import answered, compare, record, tally
+from stored import is_checking, stop, store
 
 FLAT = 4 * [8 * [0]]
 STRENGTHS = (1, 2)
@@ -90,21 +89,9 @@ def every_average():
                     yield Look(depth, average, bs, div2)
 
 
-def run(cases):
-    """The input, and the output of the oracle, which is that of the model and has the tc that is due."""
-    data = b"".join(case.data for case in cases)
-    output, _ = run_oracle("bench", data)
-    found = answers(output.decode())
-    assert found == [bench_model.answer(data[start:start + RECORD]) for start in range(0, len(data), RECORD)]
-    assert len(found) == len(cases)
-    for case, answer in zip(cases, found):
-        case.check(answer)
-    return data, output
-
-
 def beside(program):
     """1 where PROGRAM does not print what the oracle prints, else 0."""
-    data, output = run([*every_average(), *past_the_ends()])
+    data, output, _ = answered([*every_average(), *past_the_ends()])
     try:
         done = subprocess.run([program], input=data, stdout=subprocess.PIPE)
     except OSError as error:
@@ -121,8 +108,8 @@ def main():
     checking = is_checking(__doc__)
     cases = [*entries(), *negatives(), *past_the_ends()]
     assert sum(isinstance(case, Look) for case in cases) == 1352 + 192
-    data, output = run(cases)
-    print(f"{len(cases)} records; {tally(answers(output.decode()))}")
+    data, output, found = answered(cases)
+    print(f"{len(cases)} records; {tally(found)}")
     store({"crates/bench_table/stdin": data, "crates/bench_table/stdout": output}, checking)
 
 

@@ -36,6 +36,7 @@ fn deblock(
     ensures { λ _. ⌜ planesLeft outy outcb outcr ≡
         finished (pictureGiven settings y cb cr cells slices columns rows) ⌝ }
 {
+    // Laid out once, and lent to every look that the luma plane takes.
     let tcs = luma_tc_table();
     let r = restoration_of(cells, settings.pcm_loop_filter_disabled);
     let k = luma_component(settings);
