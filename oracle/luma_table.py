@@ -28,7 +28,7 @@ const LUMA_TC: [u8; 1352] = [
 TAIL = """\
 ];
 
-// The array is laid out where this is called: so once, and it is lent to all that look into it.
+// The array is laid out anew at each call, so a caller with many looks calls this once and lends it.
 pub fn luma_tc_table() -> [u8; 1352]
     ensures { λ r. ⌜ TcTable r ⌝ }
 {

@@ -8,8 +8,8 @@
 
 The lines of a record are flat: what it is for is the tc of the first line. Stored are the 1,352 entries in the table's
 order, at depth 8; then every negative average, at depth 16, with both bS and both ends of tc div2; then one step past
-each end. The outputs are what the oracle prints (run build.sh first). The script stops where a tc is not document 01's,
-or where the Python model does not answer the same.
+each end. The outputs are what the oracle prints (run build.sh first). The script stops where an answer is not the
+Python model's, by whose rule the table's text is made too: of an entry the Rust is the witness.
 """
 
 import subprocess

@@ -1357,7 +1357,7 @@ const LUMA_TC: [u8; 1352] = [
     24, // QP 51, bS 2, div2 6
 ];
 
-// The array is laid out where this is called: so once, and it is lent to all that look into it.
+// The array is laid out anew at each call, so a caller with many looks calls this once and lends it.
 pub fn luma_tc_table() -> [u8; 1352]
     ensures { λ r. ⌜ TcTable r ⌝ }
 {
