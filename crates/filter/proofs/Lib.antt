@@ -7,4 +7,5 @@ pub mod Example
 pub mod Figures
 pub mod Leaves
 pub mod Negative
+pub mod Outputs
 pub mod Partings

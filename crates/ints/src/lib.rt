@@ -1,15 +1,15 @@
 // The standard's integer operations on unsigned machine numbers, and the largest sample of a depth. The crate's specs
 // hold the operations over the integers, and its proofs the laws that carry an expression of integers to naturals.
 ghost use mathlib.Core.Path.{_≡_};
-ghost use Prim.Native.Nat.{_+_, _-_, _≤_, min};
+ghost use Prim.Native.Nat.{_-_, _≤_, min};
 ghost use lib.IntN.{pos};
 ghost use Rattle.ints.specs.Int.{_⊖_, _⊟_, abs, clip3, natOf};
-ghost use Rattle.ints.specs.Sample.{largestAt};
+ghost use Rattle.ints.specs.Sample.{largestAt, distance};
 
 // Abs(a - b). The second clause says the same in naturals.
 pub fn abs_diff(a: u32, b: u32) -> u32
     ensures { λ r. ⌜ r ≡ abs (pos a ⊟ pos b) ⌝ }
-    ensures { λ r. ⌜ r ≡ (a - b) + (b - a) ⌝ }
+    ensures { λ r. ⌜ r ≡ distance a b ⌝ }
 {
     if a < b { b - a } else { a - b }
 }

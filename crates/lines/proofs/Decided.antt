@@ -4,11 +4,12 @@ use mathlib.Core.Path.{_≡_, refl, sym, _∙_, ap₂}
 use mathlib.Core.Bool.{Bool, true, false, cond, _&&_}
 use lib.Dec.{ltb}
 use borrow.Author.Tests.{lt-ltb, le-ltb}
+use Rattle.ints.specs.Sample.{distance}
 use Rattle.lines.specs.declared.Line.{Line}
 use Rattle.lines.specs.declared.LumaDecision.{LumaDecision}
 use Rattle.lines.specs.declared.LumaDecision.the-variants.{Skip, Strong, Weak}
 use Rattle.lines.specs.Answer.{caseOf}
-use Rattle.lines.specs.Code.{absDiffN, dSamN}
+use Rattle.lines.specs.Code.{dSamN}
 use Rattle.lines.specs.Decision.{dpOf, dqOf, dSam, decision}
 use Rattle.lines.proofs.Numbers.{activity-is, dsam-is}
 
@@ -28,10 +29,10 @@ flat-yes {a} {b} {c} {c′} {d} u h k e e′ = rw (← e, ← e′) (simp (lt-lt
 
 -- the four activities, as the code computes them
 pub record Activities (l0 l3 : Line) (dp0 dp3 dq0 dq3 : ℕ) : Type 0 where
-  pub dp0-is : dp0 ≡ absDiffN (l0 .p2 + l0 .p0) (2 * l0 .p1)
-  pub dp3-is : dp3 ≡ absDiffN (l3 .p2 + l3 .p0) (2 * l3 .p1)
-  pub dq0-is : dq0 ≡ absDiffN (l0 .q2 + l0 .q0) (2 * l0 .q1)
-  pub dq3-is : dq3 ≡ absDiffN (l3 .q2 + l3 .q0) (2 * l3 .q1)
+  pub dp0-is : dp0 ≡ distance (l0 .p2 + l0 .p0) (2 * l0 .p1)
+  pub dp3-is : dp3 ≡ distance (l3 .p2 + l3 .p0) (2 * l3 .p1)
+  pub dq0-is : dq0 ≡ distance (l0 .q2 + l0 .q0) (2 * l0 .q1)
+  pub dq3-is : dq3 ≡ distance (l3 .q2 + l3 .q0) (2 * l3 .q1)
 
 -- the weak case, with its side flags
 abbrev weak : ℕ → ℕ → ℕ → LumaDecision

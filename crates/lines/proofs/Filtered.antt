@@ -6,11 +6,12 @@ use native.Mathlib.Omega.{arith}
 use lib.IntN.{ℤ, pos}
 use borrow.Author.Tests.{lt-ltb, le-ltb}
 use Rattle.ints.specs.Int.{neg, clip3, abs}
+use Rattle.ints.specs.Sample.{distance}
 use Rattle.ints.proofs.Laws.{naturals, shr-pos, abs-diff}
 use Rattle.lines.specs.declared.Line.{Line}
 use Rattle.lines.specs.declared.ChromaLine.{ChromaLine}
 use Rattle.lines.specs.Chroma.{chromaLine}
-use Rattle.lines.specs.Code.{biased, absDiffN, nearN, weakDeltaN, clipDeltaN, movedN, secondN}
+use Rattle.lines.specs.Code.{biased, nearN, weakDeltaN, clipDeltaN, movedN, secondN}
 use Rattle.lines.specs.Luma.{strongLine, delta0, weakBy, weakLine}
 use Rattle.lines.proofs.Numbers.{near-is, delta-is, chroma-delta-is, clip-delta-is, neg-is}
 use Rattle.lines.proofs.Numbers.{moved-is, moved-back-is, second-is}
@@ -74,12 +75,12 @@ module _ (largest t : ℕ) (p q : Bool) (l : Line) (w : Wide t l)
   rough-z : deltaOf l ≡ biased d0
   rough-z = delta-is _ _ _ _ (omega arith) ∙ ap biased (sym rough)
 
-  size-z : abs (deltaOf l) ≡ absDiffN d0 65536
+  size-z : abs (deltaOf l) ≡ distance d0 65536
   size-z = ap abs rough-z ∙ abs-diff d0 65536
 
-  pub weak-kept : (s : ℕ) → s ≡ absDiffN d0 65536 → t * 10 ≤ s → l ≡ weakLine largest t p q l
+  pub weak-kept : (s : ℕ) → s ≡ distance d0 65536 → t * 10 ≤ s → l ≡ weakLine largest t p q l
   unfolding weakLine
-  weak-kept s e h = simp (size-z, le-ltb (absDiffN d0 65536) (t * 10) (omega arith))
+  weak-kept s e h = simp (size-z, le-ltb (distance d0 65536) (t * 10) (omega arith))
 
   module _ (d : ℕ) (hd : d ≡ clipDeltaN t d0) where
     delta-z : clip3 (neg (pos t)) (pos t) (deltaOf l) ≡ biased d
@@ -88,7 +89,7 @@ module _ (largest t : ℕ) (p q : Bool) (l : Line) (w : Wide t l)
     small : d ≤ 131072
     small = rw hd (clip-delta-small d0 (w .t-wide))
 
-    pub weak-made : (s a1 a0 b0 b1 : ℕ) → s ≡ absDiffN d0 65536 → s < t * 10
+    pub weak-made : (s a1 a0 b0 b1 : ℕ) → s ≡ distance d0 65536 → s < t * 10
         → a1 ≡ secondN p largest (t / 2) (l .p2) (l .p1) (l .p0) d
         → a0 ≡ movedN largest (l .p0) d
         → b0 ≡ movedN largest (l .q0) (131072 - d)
@@ -100,7 +101,7 @@ module _ (largest t : ℕ) (p q : Bool) (l : Line) (w : Wide t l)
         simp (
           shr-pos,
           size-z,
-          lt-ltb (absDiffN d0 65536) (t * 10) (rw e at h),
+          lt-ltb (distance d0 65536) (t * 10) (rw e at h),
           delta-z,
           neg-is small,
           moved-is,

@@ -5,17 +5,18 @@ use mathlib.Core.Bool.{Bool, true, false}
 use native.Mathlib.Omega.{arith}
 use lib.IntN.{ℤ, pos}
 use Rattle.ints.specs.Int.{_⊞_, _⊟_, neg, _>>_, clip3, natOf}
+use Rattle.ints.specs.Sample.{distance}
 use Rattle.ints.proofs.Laws.{diffs, naturals, times-pos, diff-eq, gap-is, abs-diff, neg-diff, shr-diff}
 use Rattle.ints.proofs.Laws.{clip-sym, clip-near, clip-unit}
 use Rattle.lines.specs.declared.Line.{Line}
 use Rattle.lines.specs.Chroma.{chromaDelta}
-use Rattle.lines.specs.Code.{biased, absDiffN, nearN, dSamN, weakDeltaN, clipDeltaN, movedN, sideDeltaN, secondN}
+use Rattle.lines.specs.Code.{biased, nearN, dSamN, weakDeltaN, clipDeltaN, movedN, sideDeltaN, secondN}
 use Rattle.lines.specs.Decision.{activity, dSam}
 use Rattle.lines.specs.Luma.{near, delta0, sideDelta, clip1, second}
 
 -- ---- the decision
 
-pub activity-is : (a b c : ℕ) → activity (pos a) (pos b) (pos c) ≡ absDiffN (a + c) (2 * b)
+pub activity-is : (a b c : ℕ) → activity (pos a) (pos b) (pos c) ≡ distance (a + c) (2 * b)
 unfolding activity
 activity-is a b c = simp (diffs, abs-diff) (omega arith)
 

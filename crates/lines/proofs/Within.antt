@@ -76,8 +76,8 @@ weak-by-within t p q d w =
       q3≤ = w .q3≤;
     }
 
--- what holds of both lines holds of the chosen one
-pub of-chosen : (P : Line → Type 0) {a b : Line} (t : Bool) → P a → P b → P (cond t a b)
+-- what holds of both holds of the chosen one
+pub of-chosen : {A : Type 0} (P : A → Type 0) {a b : A} (t : Bool) → P a → P b → P (cond t a b)
 of-chosen P true h k = h
 of-chosen P false h k = k
 

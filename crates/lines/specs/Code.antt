@@ -5,14 +5,11 @@ use mathlib.Core.Bool.{Bool, cond, _&&_}
 use lib.Dec.{ltb}
 use lib.IntN.{ℤ}
 use Rattle.ints.specs.Int.{_⊖_}
+use Rattle.ints.specs.Sample.{distance}
 
 -- the integer that a biased number stands for
 abbrev pub biased : ℕ → ℤ
 biased n = n ⊖ 65536
-
--- |a - b|
-abbrev pub absDiffN : ℕ → ℕ → ℕ
-absDiffN a b = (a - b) + (b - a)
 
 -- Clip3(x - 2 tc, x + 2 tc, v)
 abbrev pub nearN : ℕ → ℕ → ℕ → ℕ
@@ -20,7 +17,7 @@ nearN tc x v = max (x - 2 * tc) (min (x + 2 * tc) v)
 
 abbrev pub dSamN : ℕ → ℕ → ℕ → ℕ → ℕ → ℕ → ℕ → Bool
 dSamN β tc dpq p3 p0 q0 q3 =
-    ltb dpq (β / 4) && (ltb (absDiffN p3 p0 + absDiffN q0 q3) (β / 8) && ltb (absDiffN p0 q0) ((5 * tc + 1) / 2))
+    ltb dpq (β / 4) && (ltb (distance p3 p0 + distance q0 q3) (β / 8) && ltb (distance p0 q0) ((5 * tc + 1) / 2))
 
 -- Δ of the weak filter before it is clipped
 abbrev pub weakDeltaN : ℕ → ℕ → ℕ → ℕ → ℕ

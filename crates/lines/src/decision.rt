@@ -5,13 +5,14 @@ use crate::LumaDecision;
 use crate::counts::with_counts;
 ghost use mathlib.Core.Path.{_≡_};
 ghost use Prim.Native.Nat.{_+_, _*_, _<_};
+ghost use Rattle.ints.specs.Sample.{distance};
 ghost use Rattle.lines.specs.Answer.{answerOf};
-ghost use Rattle.lines.specs.Code.{absDiffN, dSamN};
+ghost use Rattle.lines.specs.Code.{dSamN};
 ghost use Rattle.lines.specs.Decision.{decision};
 
 // |x2 - 2 x1 + x0|
 fn side_activity(x2: u16, x1: u16, x0: u16) -> u32
-    ensures { λ r. ⌜ r ≡ absDiffN (x2 + x0) (2 * x1) ⌝ }
+    ensures { λ r. ⌜ r ≡ distance (x2 + x0) (2 * x1) ⌝ }
     ensures { λ r. ⌜ r < 131072 ⌝ }
 {
     ints::abs_diff((x2 as u32) + (x0 as u32), 2 * (x1 as u32))

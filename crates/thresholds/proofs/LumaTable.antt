@@ -16,8 +16,9 @@ use Rattle.ints.proofs.Laws.{either, pos-diff, diff-pos, by-diff, lt-pos}
 use Rattle.thresholds.specs.Tables.{TC}
 use Rattle.thresholds.specs.Luma.{averageQp, tcIndex, scaled, lumaTc}
 use Rattle.thresholds.specs.LumaTable.{tcPlace, TcTable}
-use Rattle.thresholds.proofs.Rows.{each, agrees, passes, tc-small, tc-none}
+use Rattle.thresholds.proofs.Rows.{each, agrees, passes, tc-none}
 use Rattle.thresholds.proofs.Facts.{tc-is, average-most}
+use Rattle.thresholds.proofs.Most.{luma-tc-most}
 
 -- ---- every entry
 
@@ -67,11 +68,7 @@ at-depth : (d : ℕ) (z s o : ℤ) → scaled d (lumaTc 8 z s o) ≡ lumaTc d z 
 unfolding lumaTc
 at-depth d z s o = ap (scaled d) (at-8 (getD TC (tcIndex z s o) 0))
 
--- no tC at depth 8 is above 64, and so no entry, at whatever place: no shift loses a bit of it
-eight-small : (z s o : ℤ) → lumaTc 8 z s o ≤ 64
-unfolding lumaTc
-eight-small z s o = omega (arith, at-8 (getD TC (tcIndex z s o) 0), tc-small (tcIndex z s o))
-
+-- no tC at depth 8 is above 24, and so no entry, at whatever place, above 64: no shift loses a bit of it
 pub table-small : {entries : List ℕ} → TcTable entries → (k : ℕ) → getD entries k 0 ≤ 64
 table-small {entries} table k = go (either k 1352)
   where
@@ -81,7 +78,7 @@ table-small {entries} table k = go (either k 1352)
         let s : ℕ = k / 13 % 2 + 1 in
         let o : ℕ = k % 13 in
         let e = table .entry q s o (omega arith) (omega arith) (omega arith) (omega arith) in
-        omega (arith, ap (λ (n : ℕ). getD entries n 0) (place-back k), e, eight-small (pos q) (pos s) (o ⊖ 6))
+        omega (arith, ap (λ (n : ℕ). getD entries n 0) (place-back k), e, luma-tc-most 8 (pos q) (pos s) (o ⊖ 6))
     go (inr h) = omega (arith, List·getD-eq-default entries 0 {n = k} (omega (arith, table .long)))
 
 -- the entry that is read for an average, held 64 more, a bS and an offset, held 6 more

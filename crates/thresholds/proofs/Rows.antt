@@ -95,12 +95,13 @@ word-row table small q =
     ∙ getD-drop (8 * (q / 8)) table (q % 8) 0
     ∙ ap (λ (k : ℕ). getD table k 0) (omega arith)
 
-pub tc-small : (q : ℕ) → getD TC q 0 ≤ 64
+-- no row is above 24, and past the last there is nothing
+pub rows-most : (q : ℕ) → getD TC q 0 ≤ 24
 unfolding TC
-tc-small q = go (either q 54)
+rows-most q = go (either q 54)
   where
-    go : (q < 54) ⊎ (54 ≤ q) → getD TC q 0 ≤ 64
-    go (inl h) = leb-true _ _ (passes (λ _ x. leb x 64) TC refl q h)
+    go : (q < 54) ⊎ (54 ≤ q) → getD TC q 0 ≤ 24
+    go (inl h) = leb-true _ _ (passes (λ _ x. leb x 24) TC refl q h)
     go (inr h) = omega (arith, List·getD-eq-default TC 0 {n = q} h)
 
 -- the rows below 18 are 0
@@ -111,7 +112,7 @@ tc-none q h =
     eqb-true _ _ (simp (lt-ltb q 18 h) at row)
 
 pub tc-made : (q : ℕ) {w r : ℕ} → w ≡ wordOf TC (q / 8) → r ≡ w / 2 ^ (8 * (q % 8)) % 256 → r ≡ getD TC q 0
-tc-made q ew er = er ∙ rw ew (word-row TC (λ j. omega (arith, tc-small j)) q)
+tc-made q ew er = er ∙ rw ew (word-row TC (λ j. omega (arith, rows-most j)) q)
 
 -- the rows below 16 are 0
 pub word-low : (g : ℕ) → g < 2 → 0 ≡ wordOf TC g

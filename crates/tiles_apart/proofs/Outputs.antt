@@ -1,46 +1,19 @@
--- What the stage leaves of an accepted picture: the finished planes, whatever was lent; and those of a tile are those
--- of its cut.
-use Prim.Native.Nat.{ℕ, _<_}
-use mathlib.Core.Path.{_≡_, refl, ap, sym, _∙_}
-use mathlib.Core.List.{List}
+-- Of the finished planes of an accepted picture, those of a tile are those of its cut.
+use Prim.Native.Nat.{ℕ}
+use mathlib.Core.Path.{_≡_, sym, _∙_}
 use native.Mathlib.Omega.{arith}
-use lib.ListN.{length}
 use Rattle.filter.specs.Count.{differences}
-use Rattle.filter.specs.Finished.{finishedPlane, finished, outputs}
+use Rattle.filter.specs.Finished.{finished}
+use Rattle.filter.proofs.Outputs.{finished-long, finished-at}
 use Rattle.picture.specs.Accepted.{PictureOk, PlanesOk}
-use Rattle.picture.specs.Causes.{verdict}
 use Rattle.picture.specs.Cut.{IsTile, tilePart, tilePlanes, cut}
-use Rattle.picture.specs.Ledger.{acceptance}
 use Rattle.picture.specs.Picture.{Picture, Planes, planeOf, planeWidth, planeHeight}
-use Rattle.picture.specs.Plane.{at, table}
 use Rattle.picture.specs.Scale.{Component, Y, Cb, Cr}
-use Rattle.picture.proofs.Tables.{length-table}
 use Rattle.tiles_apart.proofs.Count.{TileAgrees, none-differ, all-agree}
 use Rattle.tiles_apart.proofs.Local.{local}
 use Rattle.tiles_apart.proofs.Parts.{crop-at, crop-length}
-use Rattle.tiles_apart.proofs.Tables.{at-table, ext-at}
+use Rattle.tiles_apart.proofs.Tables.{ext-at}
 use Rattle.tiles_apart.proofs.Tile.{part-inside, plane-of-tile}
-
-pub outputs-finished : (p : Picture) (lent : Planes) → verdict p lent ≡ acceptance → outputs p lent ≡ finished p
-unfolding outputs
-outputs-finished p lent e = rw e
-
-finished-table : (p : Picture) (c : Component)
-    → planeOf (finished p) c ≡ table (planeWidth p c) (planeHeight p c) (finishedPlane p c)
-unfolding finished
-finished-table p Y = refl
-finished-table p Cb = refl
-finished-table p Cr = refl
-
-finished-long : (p : Picture) → PlanesOk p (finished p)
-finished-long p c =
-    ap length (finished-table p c) ∙ length-table (planeWidth p c) (planeHeight p c) (finishedPlane p c)
-
-finished-at : (p : Picture) (c : Component) (x y : ℕ) → x < planeWidth p c → y < planeHeight p c
-    → at (planeOf (finished p) c) (planeWidth p c) x y ≡ finishedPlane p c x y
-finished-at p c x y hx hy =
-    ap (λ (l : List ℕ). at l (planeWidth p c) x y) (finished-table p c)
-    ∙ at-table (planeWidth p c) (planeHeight p c) (finishedPlane p c) x y hx hy
 
 planes-same : (a b : Planes) → ((c : Component) → planeOf a c ≡ planeOf b c) → a ≡ b
 planes-same a b same = λ k. record { y = same Y k; cb = same Cb k; cr = same Cr k }

@@ -2,6 +2,7 @@
 use Prim.Native.Nat.{ℕ}
 use mathlib.Core.Path.{_≡_, ap, sym, _∙_}
 use Rattle.filter.specs.Finished.{finished, outputs}
+use Rattle.filter.proofs.Outputs.{outputs-finished}
 use Rattle.picture.specs.Accepted.{Accepted, PictureOk, PlanesOk}
 use Rattle.picture.specs.Causes.{verdict}
 use Rattle.picture.specs.Cut.{tilePlanes, cut}
@@ -10,7 +11,7 @@ use Rattle.picture.specs.Picture.{Picture, Planes}
 use Rattle.picture.proofs.Accepted.{accepted-by, accepted-is}
 use Rattle.tiles_apart.specs.Term3.{AcceptedTile, Apart, Term3}
 use Rattle.tiles_apart.proofs.Accept.{accepted, strengths}
-use Rattle.tiles_apart.proofs.Outputs.{outputs-finished, finished-differences, finished-tile}
+use Rattle.tiles_apart.proofs.Outputs.{finished-differences, finished-tile}
 
 module _ (p : Picture) (lent : Planes) (i j : ℕ) (given : AcceptedTile p lent i j) where
   whole : Accepted p lent
