@@ -1,0 +1,4 @@
+pub mod Lines
+pub mod Segments
+pub mod Passes
+pub mod Pictures
