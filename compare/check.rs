@@ -8,18 +8,22 @@ use crate::cut;
 use crate::gate;
 use crate::ledger;
 use crate::lists;
+use crate::moves;
 use crate::ours;
 use crate::picture::{PLANE_NAMES, Picture};
 use crate::random::Random;
 use crate::standard;
-use crate::theirs::{Calls, Grid, Rust};
+use crate::theirs::kernels::Calls;
+use crate::theirs::share::Share;
+use crate::theirs::{Grid, Rust};
 
 /// What was found of an accepted picture on which both sides agree.
 pub struct Agreed {
     pub coverage: Coverage,
     pub calls: Calls,
-    /// Samples that the filter moved, by plane.
+    /// Samples that the filter moved, by plane; and of how far one may go the largest share.
     pub moved: [u64; 3],
+    pub shares: [Share; 3],
     pub tiles: u64,
     /// Whether the customer's Rust was also run with the absent grid.
     pub absent_grid: bool,
@@ -130,7 +134,9 @@ fn check_accepted(p: &Picture, planes: &[Vec<u16>; 3], rust: &mut Rust, random: 
     check_fallback(known, &theirs, rust)?;
     same_counts(&coverage, &calls)?;
     let moved = [0, 1, 2].map(|k| planes[k].iter().zip(&p.planes[k]).filter(|(a, b)| a != b).count() as u64);
-    Ok(Agreed { coverage, calls, moved, tiles, absent_grid, left_out, parted: *planes != theirs, theirs })
+    // Last: what is too far because it is another sample is told as that.
+    let shares = moves::check(p, planes)?;
+    Ok(Agreed { coverage, calls, moved, shares, tiles, absent_grid, left_out, parted: *planes != theirs, theirs })
 }
 
 /// Both sides on one picture as it is, and the planes that the stage leaves. `None` stands for a refusal on which they agree.

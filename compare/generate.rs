@@ -86,7 +86,7 @@ pub fn drawn(random: &mut Random, size: Sizes) -> Picture {
 }
 
 /// Tile starts along one direction: none but the first, some, or as many as there can be.
-fn starts(random: &mut Random, samples: u32, log2_ctb: u32, most: usize) -> Vec<u16> {
+pub fn starts(random: &mut Random, samples: u32, log2_ctb: u32, most: usize) -> Vec<u16> {
     let ctbs = samples.div_ceil(1 << log2_ctb) as u16;
     let density = random.pick(&[0, 15, 40, 40, 100]);
     let mut starts = vec![0];

@@ -1,5 +1,6 @@
 //! The stage beside the customer's Rust, a second program from H.265 and document 01's refusal ledger, on random pictures; and the
-//! conversion of cell lists, on random lists. README.md says what is compared.
+//! conversion of cell lists, on random lists. README.md says what is compared. Besides, a search for pictures whose samples go as far as
+//! they can.
 
 #![allow(dead_code)] // not all of the customer's files is called from here
 
@@ -39,14 +40,19 @@ mod coverage;
 mod cut;
 mod damage;
 mod dump;
+mod far;
+mod far_content;
+mod far_tally;
 mod generate;
 mod guards;
 mod ledger;
 mod lists;
+mod moves;
 mod options;
 mod ours;
 mod program;
 mod random;
+mod search;
 mod shrink;
 mod tally;
 
@@ -56,9 +62,9 @@ use random::Random;
 use tally::Tally;
 use theirs::Rust;
 
-/// Where the two sides differ: the number in the run, the picture if it is one, and what differs.
+/// Where the two sides differ: at which picture or list, the picture if it is one, and what differs.
 struct Difference {
-    number: u64,
+    at: String,
     picture: Option<Picture>,
     what: String,
 }
@@ -69,7 +75,7 @@ struct Run {
     next: AtomicU64,
     /// Nothing after this number need be looked at: the run ends at its first difference, whichever thread finds it.
     last: AtomicU64,
-    found: Mutex<Vec<Difference>>,
+    found: Mutex<Vec<(u64, Difference)>>,
     tally: Mutex<Tally>,
 }
 
@@ -97,17 +103,36 @@ fn look_at(picture: &Picture, kinds: &[usize], rust: &mut Rust, random: &mut Ran
     Ok(())
 }
 
-/// Picture or list `number`: counted, or what differs. After the pictures come as many lists as there are accepted pictures.
-fn look_at_number(options: &Options, number: u64, rust: &mut Rust, tally: &mut Tally) -> Result<(), Difference> {
-    if number < options.accepted + options.damaged {
-        let (picture, kinds, mut random) = picture(options, number);
-        return look_at(&picture, &kinds, rust, &mut random, tally).map_err(|what| Difference { number, picture: Some(picture), what });
-    }
-    let mut random = Random::new(options.seed, 2, number);
-    let (cells, out_length) = lists::list(&mut random);
-    lists::check(&cells, out_length, &mut random).map_err(|what| Difference { number, picture: None, what })?;
-    tally.lists.count(&cells, out_length);
+/// One adversarial picture: counted, or what differs.
+fn look_at_far(picture: &Picture, rust: &mut Rust, random: &mut Random, tally: &mut Tally) -> Result<(), String> {
+    assert_eq!(ledger::verdict(picture), (0, 0), "the generator made another picture than it should");
+    let found = check::check(picture, rust, random)?;
+    tally.far.count(picture, &found.agreed.ok_or("an accepted picture was not filtered")?);
     Ok(())
+}
+
+/// Picture or list `number`: counted, or what differs. After the pictures come as many lists as there are accepted pictures, and then the
+/// adversarial pictures, which have numbers of their own.
+fn look_at_number(options: &Options, number: u64, rust: &mut Rust, tally: &mut Tally) -> Result<(), Difference> {
+    let differs = |at: String, picture: Option<Picture>| move |what: String| Difference { at, picture, what };
+    let lists = options.accepted + options.damaged;
+    let far = lists + options.accepted;
+    if number < lists {
+        let (picture, kinds, mut random) = picture(options, number);
+        let looked = look_at(&picture, &kinds, rust, &mut random, tally);
+        return looked.map_err(differs(format!("picture {number}"), Some(picture)));
+    }
+    if number < far {
+        let mut random = Random::new(options.seed, 2, number);
+        let (cells, out_length) = lists::list(&mut random);
+        lists::check(&cells, out_length, &mut random).map_err(differs(format!("list {number}"), None))?;
+        tally.lists.count(&cells, out_length);
+        return Ok(());
+    }
+    let mut random = Random::new(options.seed, 4, number - far);
+    let picture = far::picture(&mut random);
+    let looked = look_at_far(&picture, rust, &mut random, tally);
+    looked.map_err(differs(format!("adversarial picture {}", number - far), Some(picture)))
 }
 
 fn work(run: &Run) {
@@ -115,12 +140,13 @@ fn work(run: &Run) {
     let mut tally = Tally::new();
     loop {
         let number = run.next.fetch_add(1, Ordering::Relaxed);
-        if number >= 2 * run.options.accepted + run.options.damaged || number > run.last.load(Ordering::Relaxed) {
+        let end = 2 * run.options.accepted + run.options.damaged + run.options.far;
+        if number >= end || number > run.last.load(Ordering::Relaxed) {
             break;
         }
         if let Err(difference) = look_at_number(&run.options, number, &mut rust, &mut tally) {
             run.last.fetch_min(number, Ordering::Relaxed);
-            run.found.lock().unwrap().push(difference);
+            run.found.lock().unwrap().push((number, difference));
         }
     }
     run.tally.lock().unwrap().add(&tally);
@@ -128,8 +154,7 @@ fn work(run: &Run) {
 
 /// Shrinks the picture, prints it and writes it as a record.
 fn report(options: &Options, difference: &Difference) {
-    let of = if difference.picture.is_some() { "picture" } else { "list" };
-    println!("DIFFERENCE at {of} {} (seed {}): {}", difference.number, options.seed, difference.what);
+    println!("DIFFERENCE at {} (seed {}): {}", difference.at, options.seed, difference.what);
     let Some(picture) = difference.picture.as_ref().filter(|_| options.shrink) else { return };
     let mut rust = Rust::new();
     let mut differs = |p: &Picture| check::check(p, &mut rust, &mut Random::new(0, 1, 0)).err();
@@ -164,6 +189,9 @@ fn main() -> ExitCode {
     if let Some(file) = &options.program {
         return program::run(file, options.accepted, options.seed);
     }
+    if let Some(file) = &options.search {
+        return search::run(file, options.seed);
+    }
     quiet_customer();
     let threads = options.threads;
     let run = Run {
@@ -176,12 +204,12 @@ fn main() -> ExitCode {
     std::thread::scope(|scope| (0..threads).for_each(|_| drop(scope.spawn(|| work(&run)))));
     run.tally.into_inner().unwrap().print();
     let found = run.found.into_inner().unwrap();
-    match found.iter().min_by_key(|difference| difference.number) {
+    match found.iter().min_by_key(|(number, _)| number) {
         None => {
             println!("no difference");
             ExitCode::SUCCESS
         }
-        Some(first) => {
+        Some((_, first)) => {
             report(&run.options, first);
             ExitCode::FAILURE
         }

@@ -3,6 +3,8 @@
 pub struct Options {
     pub accepted: u64,
     pub damaged: u64,
+    /// Adversarial pictures, which come last.
+    pub far: u64,
     pub seed: u64,
     pub threads: u64,
     /// Whether a picture on which the two sides differ is made smaller.
@@ -11,27 +13,41 @@ pub struct Options {
     pub smallest: String,
     /// A program that converts a list, which alone is then looked at, on as many lists as there would be accepted pictures.
     pub program: Option<String>,
+    /// Where pictures that meet the bounds of C-23 are written, which are then searched for, and nothing is compared.
+    pub search: Option<String>,
 }
 
-const USAGE: &str = "arguments: --accepted N, --damaged N, --seed S, --threads T, --smallest FILE, --no-shrink, --program FILE";
+const USAGE: &str = "arguments: --accepted N, --damaged N, --far N, --seed S, --threads T, --smallest FILE, --no-shrink, --program FILE, \
+    --search FILE";
 
 impl Options {
     pub fn read(mut words: impl Iterator<Item = String>) -> Result<Options, String> {
         let cores = std::thread::available_parallelism().map_or(1, |n| n.get() as u64);
         let smallest = "target/compare/smallest".to_string();
-        let mut options =
-            Options { accepted: 100_000, damaged: 100_000, seed: 20261115, threads: cores, shrink: true, smallest, program: None };
+        let mut options = Options {
+            accepted: 100_000,
+            damaged: 100_000,
+            far: 100_000,
+            seed: 20261115,
+            threads: cores,
+            shrink: true,
+            smallest,
+            program: None,
+            search: None,
+        };
         while let Some(word) = words.next() {
             let mut value = || words.next().ok_or(USAGE);
             let number = |text: String| text.parse::<u64>().map_err(|_| format!("not a number: {text}"));
             match word.as_str() {
                 "--accepted" => options.accepted = number(value()?)?,
                 "--damaged" => options.damaged = number(value()?)?,
+                "--far" => options.far = number(value()?)?,
                 "--seed" => options.seed = number(value()?)?,
                 "--threads" => options.threads = number(value()?)?.max(1),
                 "--smallest" => options.smallest = value()?,
                 "--no-shrink" => options.shrink = false,
                 "--program" => options.program = Some(value()?),
+                "--search" => options.search = Some(value()?),
                 _ => return Err(USAGE.into()),
             }
         }

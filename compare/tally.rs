@@ -1,14 +1,16 @@
-//! What a run exercised. All of it is sums, so that it does not matter which thread ran what.
+//! What a run exercised. All of it is sums and largest shares, so that it does not matter which thread ran what.
 
 use crate::check::{Agreed, Found};
 use crate::coverage::{Coverage, ENTRIES, Segments};
 use crate::damage;
+use crate::far_tally::FarTally;
 use crate::ledger::Verdict;
 use crate::lists::Lists;
+use crate::moves::Shares;
 use crate::picture::Picture;
 
-/// Counts by a small number: pictures, and segments that the kernels filtered.
-type Table<const N: usize> = [(u64, u64); N];
+/// Counts by a small number: pictures, and segments that the kernels filtered, or those of the pictures that meet their bounds.
+pub type Table<const N: usize> = [(u64, u64); N];
 
 /// Pictures that C-14's rule alone refuses. Each is looked at converted too, and is accepted then.
 #[derive(Clone, Copy, Default)]
@@ -72,6 +74,9 @@ pub struct Tally {
     out_of_rule: OutOfRule,
     refused_out_of_rule: OutOfRule,
     pub lists: Lists,
+    pub far: FarTally,
+    /// Of the accepted pictures.
+    shares: Shares,
     many_slices: u64,
     luma_samples: u64,
     sides: [u64; 5],
@@ -91,7 +96,7 @@ fn side_class(p: &Picture) -> usize {
     }
 }
 
-fn add<const N: usize>(into: &mut Table<N>, from: &Table<N>) {
+pub fn add<const N: usize>(into: &mut Table<N>, from: &Table<N>) {
     into.iter_mut().zip(from).for_each(|(a, b)| *a = (a.0 + b.0, a.1 + b.1));
 }
 
@@ -109,6 +114,7 @@ impl Tally {
         self.weak += a.calls.weak;
         self.chroma += chroma;
         (0..3).for_each(|plane| self.moved[plane] += a.moved[plane]);
+        self.shares.count(a);
         self.tiles += a.tiles;
         self.tiled += u64::from(a.tiles > 1);
         self.most_tiles = self.most_tiles.max(a.tiles);
@@ -169,6 +175,8 @@ impl Tally {
         self.out_of_rule.add(&more.out_of_rule);
         self.refused_out_of_rule.add(&more.refused_out_of_rule);
         self.lists.add(&more.lists);
+        self.far.add(&more.far);
+        self.shares.add(&more.shares);
         self.many_slices += more.many_slices;
         self.luma_samples += more.luma_samples;
         add(&mut self.formats, &more.formats);
@@ -186,6 +194,8 @@ impl Tally {
             "lists {}; bytes {}; lengths that differ {}; empty {}; ending within a record {}; in rule {}; strengths zeroed {}",
             l.count, l.bytes, l.refused, l.empty, l.partial, l.in_rule, l.zeroed
         );
+        self.shares.print("random pictures");
+        self.far.print();
     }
 
     fn print_pictures(&self) {
@@ -254,7 +264,7 @@ fn print_closed(s: &Segments) {
     );
 }
 
-fn print_table<const N: usize>(name: &str, first: usize, table: &Table<N>) {
+pub fn print_table<const N: usize>(name: &str, first: usize, table: &Table<N>) {
     let entries: Vec<String> = table.iter().enumerate().map(|(k, (n, s))| format!("{}: {n} ({s})", first + k)).collect();
     println!("  by {name}: {}", entries.join(", "));
 }

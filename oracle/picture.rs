@@ -20,7 +20,8 @@ mod picture;
 mod theirs;
 
 use picture::Picture;
-use theirs::{Calls, Grid, Rust};
+use theirs::kernels::Calls;
+use theirs::{Grid, Rust};
 
 /// The planes of a picture. One tile is run with the absent grid too, which must give the same.
 fn filtered(rust: &mut Rust, picture: &Picture, counts: &mut Calls) -> Result<[Vec<u16>; 3], String> {

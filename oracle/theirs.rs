@@ -1,67 +1,23 @@
-//! The customer's `apply_deblocking_parallel` on a copy of an accepted picture, with kernels that count.
+//! The customer's `apply_deblocking_parallel` on a copy of an accepted picture, with kernels that count and are held to their bounds.
 
 use std::cell::Cell;
 use std::panic::{AssertUnwindSafe, catch_unwind};
 
-use crate::deblock::{self, LumaDecision};
+use crate::deblock;
 use crate::picture::{CELL_BYTES, DEFAULT_SLICE, Picture, SLICE_BYTES};
 use crate::{config, decode, exec, threadpool, tiles};
 
-/// How often the kernels were called, for luma by the decision.
-#[derive(Clone, Copy, Default)]
-pub struct Calls {
-    pub strong: u64,
-    pub weak: u64,
-    pub chroma: u64,
-}
+#[path = "kernels.rs"]
+pub mod kernels;
+#[path = "line_bounds.rs"]
+pub mod line_bounds;
+#[path = "share.rs"]
+pub mod share;
+use kernels::Calls;
 
 thread_local! {
-    // A pool of one thread runs its bands on the caller's thread, so that each of our threads counts for itself.
-    static CALLS: Cell<Calls> = const { Cell::new(Calls { strong: 0, weak: 0, chroma: 0 }) };
     /// Whether the customer's code is running: a panic there is caught and reported as a difference.
     pub static INSIDE: Cell<bool> = const { Cell::new(false) };
-}
-
-fn count_luma(decision: LumaDecision) {
-    let mut calls = CALLS.get();
-    let counter = if decision == LumaDecision::Strong { &mut calls.strong } else { &mut calls.weak };
-    *counter += 1;
-    CALLS.set(calls);
-}
-
-fn count_chroma() {
-    let calls = CALLS.get();
-    CALLS.set(Calls { chroma: calls.chroma + 1, ..calls });
-}
-
-fn luma_vertical(p: &mut [u16], w: usize, edge: usize, s: usize, row: usize, d: LumaDecision, tc: i32, most: i32) {
-    count_luma(d);
-    deblock::luma_vertical_plane_scalar(p, w, edge, s, row, d, tc, most);
-}
-
-fn luma_horizontal(p: &mut [u16], w: usize, edge: usize, s: usize, row: usize, d: LumaDecision, tc: i32, most: i32) {
-    count_luma(d);
-    deblock::luma_horizontal_plane_scalar(p, w, edge, s, row, d, tc, most);
-}
-
-fn chroma_vertical(p: &mut [u16], w: usize, edge: usize, s: usize, row: usize, tc: i32, most: i32) {
-    count_chroma();
-    deblock::chroma_vertical_plane_scalar(p, w, edge, s, row, tc, most);
-}
-
-fn chroma_horizontal(p: &mut [u16], w: usize, edge: usize, s: usize, row: usize, tc: i32, most: i32) {
-    count_chroma();
-    deblock::chroma_horizontal_plane_scalar(p, w, edge, s, row, tc, most);
-}
-
-fn kernels() -> exec::ExecContext {
-    exec::ExecContext {
-        luma_deblock_vertical: luma_vertical,
-        luma_deblock_horizontal: luma_horizontal,
-        chroma_deblock_vertical: chroma_vertical,
-        chroma_deblock_horizontal: chroma_horizontal,
-        ..exec::ExecContext::scalar()
-    }
 }
 
 /// The cells and slices as the customer lays them out: a list for each field.
@@ -162,21 +118,23 @@ impl Rust {
         Rust { pool: threadpool::ThreadPool::new(1), scratch: deblock::DeblockScratch::default() }
     }
 
-    /// The planes that the customer's code leaves and its kernels' calls; or that it stopped, which it must not.
+    /// The planes that the customer's code leaves and its kernels' calls; or that it stopped or moved a sample too far, which it must not.
     pub fn run(&mut self, p: &Picture, grid: Grid) -> Result<([Vec<u16>; 3], Calls), String> {
         let lists = Lists::of(p);
         let ctb = 1 << p.log2_ctb;
         let starts = config::Pps::from_starts(&p.columns, &p.rows);
         let tiles = tiles::TileGrid::from_pps(&starts, p.width.div_ceil(ctb) as usize, p.height.div_ceil(ctb) as usize);
-        let ctx = context(p, &lists, if grid == Grid::Given { tiles.as_ref() } else { None }, kernels());
+        let ctx = context(p, &lists, if grid == Grid::Given { tiles.as_ref() } else { None }, kernels::kernels());
         let [y, cb, cr] = p.planes.clone();
-        CALLS.set(Calls::default());
+        kernels::begin();
         INSIDE.set(true);
         let done = catch_unwind(AssertUnwindSafe(|| {
             deblock::apply_deblocking_parallel(&self.pool, &ctx, ctx.log2_ctb, &mut self.scratch, y, cb, cr)
         }));
         INSIDE.set(false);
         let planes = done.map_err(|_| "the customer's Rust stopped by a panic".to_string())?;
-        Ok(([planes.y, planes.cb, planes.cr], CALLS.get()))
+        let calls = kernels::calls();
+        calls.moves.check()?;
+        Ok(([planes.y, planes.cb, planes.cr], calls))
     }
 }
