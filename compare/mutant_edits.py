@@ -371,10 +371,25 @@ COUNTS = [
          "lines::LumaAnswer { decision: LumaDecision::Skip, counts: lines::with_counts(LumaDecision::Strong).counts }"),
 ]
 
+# How far samples moved (document 02, C-23), which far_pictures prints: the last of equally far ones, the first place left out, the place
+# after, half of the distance, moves up alone; a refusal's place, and one plane for another.
+FARTHEST = [
+    Edit("moves/lib", "if distance < d {", "if distance <= d {"),
+    Edit("moves/lib", "let mut k = 0;", "let mut k = 1;", "the first sample of a plane lies before every edge and never moves"),
+    Edit("moves/lib", "place = k;", "place = k + 1;"),
+    Edit("moves/lib", "distance = d;", "distance = d / 2;"),
+    Edit("moves/lib", "abs_diff(a as u32, b as u32)", "if a < b { (b - a) as u32 } else { 0 }"),
+    Edit("picture_text/farthest", 'put_number_then(place_of(verdict), b"\\n")', 'put_number_then(0, b"\\n")'),
+    Edit("picture_text/farthest", 'put_move(far.cb, b" ")', 'put_move(far.cr, b" ")'),
+    Edit("picture_run/pictures", "cr: farthest_move(cr, outcr)", "cr: farthest_move(cb, outcb)"),
+    Edit("picture_run/pictures", "y: farthest_move(y, outy)", "y: farthest_move(outy, outy)"),
+]
+
 
 def built_as(crate, edits):
     return [edit._replace(built=crate) for edit in edits]
 
 
 EDITS = [*THRESHOLDS, *DECISION, *LINES, *WINDOWS, *GATE, *TILES_AND_POSITIONS, *PASSES, *RESTORATION, *CHECKS, *MISTAKES,
-         *EMPTY_LIST, *PALETTE, *RULE, *CONVERSION, *built_as("convert_cells", CONVERTER), *built_as("segment_bench", COUNTS)]
+         *EMPTY_LIST, *PALETTE, *RULE, *CONVERSION, *built_as("convert_cells", CONVERTER), *built_as("segment_bench", COUNTS),
+         *built_as("far_pictures", FARTHEST)]

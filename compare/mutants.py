@@ -7,9 +7,9 @@
 
 A mutant is a copy of the sources under target/mutants changed at one place, built without proof (unproved.py). The comparison loads its
 library in place of the proved static library, or runs its program convert_cells. Of what the bench prints and the stage does not, and of
-single entries of a table, the program segment_bench is run beside the oracle, on random records and on those that read each entry. The
-unchanged sources go first: there nothing may be found. Prints a line for each mutant. The status is 0 where every mutant was noticed but
-those that are argued to change no output.
+single entries of a table, the program segment_bench is run beside the oracle, on random records and on those that read each entry. Of how
+far samples go the program far_pictures is run, and held to its stored text. The unchanged sources go first: there nothing may be found.
+Prints a line for each mutant. The status is 0 where every mutant was noticed but those that are argued to change no output.
 """
 
 import os
@@ -22,9 +22,9 @@ from pathlib import Path
 sys.dont_write_bytecode = True
 
 from mutant_edits import EDITS
-from unproved import BENCH, CONVERTER, LIBRARY, ROOT, WORK, begin, build_library, build_program, copy_sources, must
+from unproved import BENCH, CONVERTER, FAR, LIBRARY, ROOT, WORK, begin, build_library, build_program, copy_sources, must
 
-ACCEPTED, DAMAGED, SEED = 4000, 8000, 7
+ACCEPTED, DAMAGED, ADVERSARIAL, SEED = 4000, 8000, 4000, 7
 LISTS = 300  # through convert_cells, each of up to 160 KiB
 RECORDS = 2000  # through segment_bench
 PATIENCE = 120  # seconds for one run: a mutant may not end
@@ -72,7 +72,7 @@ def compare_stage(library, *words):
 
 
 def compare_library(folder):
-    return compare_stage(folder, "--accepted", ACCEPTED, "--damaged", DAMAGED)
+    return compare_stage(folder, "--accepted", ACCEPTED, "--damaged", DAMAGED, "--far", ADVERSARIAL)
 
 
 def compare_converter(folder):
@@ -87,7 +87,12 @@ def compare_bench(folder):
     return found and f"bench: {found}"
 
 
-COMPARISONS = {LIBRARY: compare_library, CONVERTER: compare_converter, BENCH: compare_bench}
+def compare_far(folder):
+    found = difference(ROOT / "oracle" / "far_pictures.py", "stored", folder / "program")
+    return found and f"far_pictures: {found}"
+
+
+COMPARISONS = {LIBRARY: compare_library, CONVERTER: compare_converter, BENCH: compare_bench, FAR: compare_far}
 
 
 def place(crates, edit):
@@ -133,8 +138,8 @@ def try_one(number, edit):
 
 def try_unchanged(unchanged):
     """Whether nothing is found in the unchanged sources."""
-    print(f"comparison with --accepted {ACCEPTED} --damaged {DAMAGED} --seed {SEED}; of {CONVERTER} with {LISTS} lists, "
-          f"of {BENCH} with {RECORDS} records and the table's")
+    print(f"comparison with --accepted {ACCEPTED} --damaged {DAMAGED} --far {ADVERSARIAL} --seed {SEED}; of {CONVERTER} with {LISTS} "
+          f"lists, of {BENCH} with {RECORDS} records and the table's, of {FAR} with its stored pictures")
     found = [COMPARISONS[crate](folder) for crate, folder in unchanged.items()]
     for crate, what in zip(unchanged, found):
         print(f"the unchanged {crate}, unproved: {what or 'no difference'}", flush=True)

@@ -1,8 +1,8 @@
 """Builds of the sources without proof, for mutants.py.
 
 The kit's `rattle-cases`, which `rt try` runs, lowers a program; a stand-in for its clang keeps the module that it is given and ends the
-build. From the module of a program that calls the library's functions a shared library is made, from that of convert_cells or of
-segment_bench the program. All of it stands under target/mutants.
+build. From the module of a program that calls the library's functions a shared library is made, from that of convert_cells, of
+segment_bench or of far_pictures the program. All of it stands under target/mutants.
 """
 
 import platform
@@ -15,7 +15,7 @@ from pathlib import Path
 
 ROOT = Path(__file__).resolve().parent.parent
 WORK = ROOT / "target" / "mutants"
-LIBRARY, CONVERTER, BENCH = "tinladle", "convert_cells", "segment_bench"
+LIBRARY, CONVERTER, BENCH, FAR = "tinladle", "convert_cells", "segment_bench", "far_pictures"
 CALLER = WORK / "caller" / "main.rt"
 
 # A program that reaches the library's functions. It only has to be compiled.
@@ -98,9 +98,21 @@ def begin():
 def copy_sources(name, crate):
     """The sources of a crate and of all that it reaches, in a folder of their own."""
     folder = WORK / name
-    for each in reached_by(crate)[0]:
+    crates = reached_by(crate)[0]
+    for each in crates:
         shutil.copytree(ROOT / "crates" / each / "src", folder / each / "src")
+        for module in (folder / each / "src").glob("*.rt"):
+            if module.stem in crates:
+                rename(module)
     return folder
+
+
+def rename(module):
+    """Gives a module another name in its crate. rattle-cases shows all crates to each, and refuses a module with a crate's name."""
+    old, new = module.stem, f"{module.stem}_module"
+    for path in module.parent.glob("*.rt"):
+        path.write_text(re.sub(rf"(\bmod |crate::|^pub use ){old}\b", rf"\1{new}", path.read_text(), flags=re.MULTILINE))
+    module.rename(module.with_stem(new))
 
 
 def lowered(main, crates, kits, folder):

@@ -1,10 +1,15 @@
 // What is done with one picture that was read. Each function answers whether all was written.
+use crate::Shown;
 use crate::Task;
+use ledger::Verdict;
+use moves::farthest_move;
 use picture_record::SAMPLES;
 use picture_record::front;
 use picture_record::length_at;
 use picture_record::settings;
+use picture_text::Moves;
 use picture_text::put_line;
+use picture_text::put_moves;
 use stage::apply_deblocking;
 use tile_run::JUNK;
 use tile_run::LentSamples;
@@ -13,8 +18,35 @@ ghost use mathlib.Core.Path.{_≡_};
 ghost use Rattle.picture.specs.Lent.{given};
 ghost use Rattle.picture_run.specs.Outputs.{lentOutputs};
 
+// The line of what the stage left.
+fn put_shown(
+    shown: Shown,
+    number: u64,
+    verdict: Verdict,
+    y: &[u16],
+    cb: &[u16],
+    cr: &[u16],
+    outy: &[u16],
+    outcb: &[u16],
+    outcr: &[u16],
+) -> bool {
+    match shown {
+        Shown::Moves => put_moves(
+            number,
+            verdict,
+            Moves {
+                y: farthest_move(y, outy),
+                cb: farthest_move(cb, outcb),
+                cr: farthest_move(cr, outcr),
+            },
+        ),
+        Shown::Planes => put_line(number, verdict, outy, outcb, outcr),
+    }
+}
+
 // Runs the stage and writes the line.
 fn stage_line(
+    shown: Shown,
     number: u64,
     head: &[u8; 80],
     y: &[u16],
@@ -41,7 +73,7 @@ fn stage_line(
         &mut outcb[..],
         &mut outcr[..],
     );
-    put_line(number, verdict, outy, outcb, outcr)
+    put_shown(shown, number, verdict, y, cb, cr, outy, outcb, outcr)
 }
 
 // How long the output planes are.
@@ -57,6 +89,7 @@ fn lent_outputs(head: &[u8; 80]) -> LentSamples
 
 // The outputs hold junk before the stage.
 fn with_outputs(
+    shown: Shown,
     number: u64,
     head: &[u8; 80],
     y: &[u16],
@@ -72,6 +105,7 @@ fn with_outputs(
     let mut outcb = [JUNK; SAMPLES];
     let mut outcr = [JUNK; SAMPLES];
     stage_line(
+        shown,
         number,
         head,
         y,
@@ -101,7 +135,18 @@ pub(crate) fn answer(
     rows: &[u16],
 ) -> bool {
     match task {
-        Task::Stage => with_outputs(number, head, y, cb, cr, cells, slices, columns, rows),
+        Task::Stage(shown) => with_outputs(
+            shown,
+            number,
+            head,
+            y,
+            cb,
+            cr,
+            cells,
+            slices,
+            columns,
+            rows,
+        ),
         Task::Tiles => tile_lines(
             number,
             settings(head),

@@ -1,5 +1,6 @@
 // One record after another. Each function answers whether to go on: not past the end of the input, nor after a write
 // that failed.
+use crate::Shown;
 use crate::Task;
 use crate::pictures::answer;
 use libc::STDIN_FILENO;
@@ -115,7 +116,12 @@ fn run(task: Task) {
 
 // A line for each picture: the stage's answer and what it left.
 pub fn run_stage() {
-    run(Task::Stage);
+    run(Task::Stage(Shown::Planes));
+}
+
+// A line for each picture: the stage's answer and how far it moved samples.
+pub fn run_moves() {
+    run(Task::Stage(Shown::Moves));
 }
 
 // A line for each tile of each picture: term 3 tried.

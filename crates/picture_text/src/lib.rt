@@ -1,8 +1,11 @@
 // The lines that the programs on stored pictures print. oracle/README.md has their layout. What goes through io has no
 // contract: none of io's says what was written. Each function answers whether all was written.
+mod farthest;
 mod pictures;
 mod words;
 
+pub use farthest::Moves;
+pub use farthest::put_moves;
 pub use pictures::put_line;
 pub use words::Fingerprints;
 pub use words::put_fingerprints;

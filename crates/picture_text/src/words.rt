@@ -10,11 +10,16 @@ pub struct Fingerprints {
     pub cr: u64,
 }
 
-pub fn put_number(n: u64) -> bool {
+// A number and what follows it.
+pub(crate) fn put_number_then(n: u64, end: &[u8]) -> bool {
     if !io::print_decimal(STDOUT_FILENO, n) {
         return false;
     }
-    io::write_all(STDOUT_FILENO, b" ")
+    io::write_all(STDOUT_FILENO, end)
+}
+
+pub fn put_number(n: u64) -> bool {
+    put_number_then(n, b" ")
 }
 
 fn put_fingerprint(number: u64, end: &[u8]) -> bool {
