@@ -1,7 +1,7 @@
 /* Calls the functions of the header as a C program does. Every buffer lies between guard words; guards and inputs must
  * stay as they were, and on a refusal the junk in the outputs too. The expected samples are document 01's figures: of
- * S1, a step from 100 to 104 at QP 37 and bS 2 becomes 100 101 101 102 103 103 104 104; without a slice K1 is worked
- * out by hand. The refusals are the small inputs of its ledger, and a few more. */
+ * S1, a step from 100 to 104 at QP 37 and bS 2 becomes 100 101 101 102 103 103 104 104; K1 without a slice and the
+ * farthest moves are worked out by hand. The refusals are the small inputs of its ledger, and a few more. */
 #include <stddef.h>
 #include <stdio.h>
 #include <stdlib.h>
@@ -244,6 +244,38 @@ static void palette_case(const char *name, bool pcm) {
     done(&p);
 }
 
+/* Every sample of a plane is in the range of depth 8 and at most `most` from its original. */
+static void expect_near(struct Picture *p, const char *name, int original, int output, int most) {
+    for (int i = 0; i < LUMA; i++) {
+        int before = samples(p, original)[i], after = samples(p, output)[i];
+        expect(after <= 255 && abs(after - before) <= most, name, "a sample beyond its range or bound");
+    }
+}
+
+/* The samples that go as far as the header says: every edge at the largest tc, 24, in 4:4:4. Row 10 is, across column
+ * 8, 200 200 255 200 | 200 255 0 200 and decided on as its flat neighbours are: both passes move the 0 by 2 * 24. In
+ * chroma the 0 lies next to both edges, and each pass moves it by 24. */
+static void farthest_case(void) {
+    static const uint8_t slice[4] = { 0, 12, 12, 1 }, every[4] = { 51 + 64, 3, 2, 2 };
+    static const char name[] = "the farthest moves";
+    struct Picture p = accepted();
+    p.format = 3;
+    for (int i = CB; i <= CR; i++) resize(&p, i, 2 * LUMA, 0), resize(&p, OUT_Y + i, 2 * LUMA, OUT_JUNK);
+    for (int i = 0; i < LUMA; i++) samples(&p, Y)[i] = samples(&p, CB)[i] = samples(&p, CR)[i] = 200;
+    samples(&p, Y)[10 * WIDTH + 6] = samples(&p, Y)[10 * WIDTH + 9] = 255, samples(&p, Y)[10 * WIDTH + 10] = 0;
+    samples(&p, CB)[7 * WIDTH + 7] = samples(&p, CR)[7 * WIDTH + 7] = 0;
+    for (int i = 0; i < CELLS; i++) memcpy(cell(&p, i, 0), every, sizeof every);
+    memcpy(at(&p.lent[SLICE]), slice, sizeof slice);
+    run(&p, name, 0, 0);
+    expect(samples(&p, OUT_Y)[10 * WIDTH + 10] == 96, name, "the farthest luma sample");
+    expect(samples(&p, OUT_CB)[7 * WIDTH + 7] == 48, name, "the farthest Cb sample");
+    expect(samples(&p, OUT_CR)[7 * WIDTH + 7] == 48, name, "the farthest Cr sample");
+    expect_near(&p, name, Y, OUT_Y, 96);
+    expect_near(&p, name, CB, OUT_CB, 48);
+    expect_near(&p, name, CR, OUT_CR, 48);
+    done(&p);
+}
+
 /* What the header says of edges that are in rule and are not filtered. */
 static void unfiltered_cases(void) {
     struct Picture p = accepted();
@@ -476,6 +508,7 @@ int main(void) {
     chroma_cases();
     palette_case("palette cells, PCM switch off", false);
     palette_case("palette cells, PCM switch on", true);
+    farthest_case();
     unfiltered_cases();
     refused_settings();
     refused_lengths();

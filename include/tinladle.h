@@ -107,6 +107,10 @@ extern "C" {
  *   place                     where the place of the answer is stored, always
  *
  * Returned is 0, and the output planes hold the filtered picture; or 1 to 10, and they hold what they held.
+ *
+ * What is promised of the filtered samples, and proved for every accepted picture: each is in its range, 0 to
+ * 2^depth - 1, and no farther from its original than 96 * 2^(luma_depth - 8) in luma and 48 * 2^(chroma_depth - 8) in
+ * chroma. No smaller numbers would do: each is met, at every depth.
  */
 uint32_t tinladle_deblock(
     uint32_t width, uint32_t height, uint32_t chroma_format, uint32_t luma_depth, uint32_t chroma_depth,

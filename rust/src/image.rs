@@ -14,6 +14,14 @@ const WHITE: [u8; 3] = [255; 3];
 /// Added to the green of a palette cell.
 const GREEN: u8 = 96;
 
+/// The marks of the farthest moves: of luma, of chroma, of both.
+const RED: [u8; 3] = [255, 64, 64];
+const BLUE: [u8; 3] = [80, 120, 255];
+const MAGENTA: [u8; 3] = [255, 64, 255];
+
+/// The shade of the nearest moves, of the 255 of the farthest: still to be seen on the dark grey.
+const DARKEST: u32 = 112;
+
 /// Samples of one picture, looked up by luma position.
 struct View<'a> {
     settings: Settings,
@@ -30,7 +38,7 @@ impl View<'_> {
 
     /// The same, scaled to 8 bits.
     fn byte(&self, plane: Plane, x: usize, y: usize) -> Option<i32> {
-        let extra = self.settings.depth(plane).clamp(8, 16) - 8;
+        let extra = self.settings.bits_above_8(plane);
         self.at(plane, x, y).map(|sample| i32::from(sample >> extra))
     }
 
@@ -47,24 +55,38 @@ impl View<'_> {
     }
 }
 
-/// Red where luma moved, blue where chroma did, both where both did, on the picture in dark grey, or green in a palette
-/// cell, whose samples stay.
+/// How bright a mark is, of 255, by the distance's share of the bound; 0 where nothing moved. It goes by the share's
+/// square root, so that the short moves, which are most, are told apart.
+fn shade(distance: u16, bound: u32) -> u32 {
+    const SHADES: u32 = 255 - DARKEST;
+    let distance = u32::from(distance).min(bound);
+    if distance == 0 { 0 } else { DARKEST + (SHADES * SHADES * distance / bound).isqrt() }
+}
+
+/// Red where luma moved, blue where chroma did, magenta where both did, the brighter the farther, on the picture in
+/// dark grey, or green in a palette cell, whose samples stay.
 fn marked(before: &View<'_>, after: &View<'_>, palette: bool, x: usize, y: usize) -> [u8; 3] {
-    let moved = |plane| before.at(plane, x, y) != after.at(plane, x, y);
-    let luma = moved(Plane::Y);
-    let chroma = moved(Plane::Cb) || moved(Plane::Cr);
-    let grey = (after.byte(Plane::Y, x, y).unwrap_or(0) / 3).clamp(0, 255) as u8;
-    match (luma, chroma) {
-        (false, false) => [grey, if palette { grey.saturating_add(GREEN) } else { grey }, grey],
-        (true, false) => [255, 64, 64],
-        (false, true) => [80, 120, 255],
-        (true, true) => [255, 64, 255],
-    }
+    let shade_in = |plane| {
+        let sample = |view: &View<'_>| view.at(plane, x, y).unwrap_or(0);
+        shade(sample(before).abs_diff(sample(after)), before.settings.move_bound(plane))
+    };
+    let luma = shade_in(Plane::Y);
+    let chroma = shade_in(Plane::Cb).max(shade_in(Plane::Cr));
+    let mark = match (luma > 0, chroma > 0) {
+        (false, false) => {
+            let grey = (after.byte(Plane::Y, x, y).unwrap_or(0) / 3).clamp(0, 255) as u8;
+            return [grey, if palette { grey.saturating_add(GREEN) } else { grey }, grey];
+        }
+        (true, false) => RED,
+        (false, true) => BLUE,
+        (true, true) => MAGENTA,
+    };
+    mark.map(|part| (u32::from(part) * luma.max(chroma) / 255) as u8)
 }
 
 /// Writes a PPM (P6) of three parts: the picture before, the picture after, and the moved samples marked: luma red,
-/// chroma blue, both magenta; palette cells are green. `finished` holds the planes that the stage left of an accepted
-/// picture.
+/// chroma blue, both magenta, the brighter the nearer a move comes to the [bound](Settings::move_bound) of its
+/// plane; palette cells are green. `finished` holds the planes that the stage left of an accepted picture.
 pub fn write_ppm(picture: &Picture<'_>, finished: &PlanesBuf, out: &mut impl Write) -> io::Result<()> {
     let settings = picture.settings;
     let (width, height) = (settings.width as usize, settings.height as usize);

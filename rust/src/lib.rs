@@ -1,7 +1,8 @@
 //! The HEVC deblocking filter (ITU-T H.265, clause 8.7.2) on one whole picture.
 //!
 //! [`deblock`] is a safe call of the proved C function `tinladle_deblock`: it answers any input with a filtered
-//! picture or with one of ten [refusals](Cause), and filters each tile as if it were a picture alone.
+//! picture or with one of ten [refusals](Cause), and filters each tile as if it were a picture alone. No sample leaves
+//! its range or moves farther than [`Settings::move_bound`]; how far one did move, [`moves`] finds.
 //!
 //! ```
 //! use tinladle::{Bs, Cell, Cells, ChromaFormat, Picture, PlanesBuf, Settings, Slice, deblock};
@@ -72,6 +73,7 @@ struct Readme;
 pub mod container;
 pub mod cut;
 pub mod image;
+pub mod moves;
 
 mod counted;
 mod faults;

@@ -125,4 +125,26 @@ impl Settings {
     pub fn depth(&self, plane: Plane) -> u32 {
         if plane == Plane::Y { self.luma_depth } else { self.chroma_depth }
     }
+
+    /// The bits of a plane's samples above 8. A depth outside 8 to 16 counts as the nearer of the two.
+    pub(crate) fn bits_above_8(&self, plane: Plane) -> u32 {
+        self.depth(plane).clamp(8, 16) - 8
+    }
+
+    /// How far the filter moves a sample of a plane from its original at the most: 96 in luma, 48 in chroma, times
+    /// 2^(depth - 8) by the plane's own depth. This is the promise of document 02's C-23, proved for every accepted
+    /// picture, and at each depth there are pictures that meet it.
+    ///
+    /// A depth outside 8 to 16 counts as the nearer of the two, and the number then promises nothing: the picture is
+    /// refused, and no sample of it moves.
+    ///
+    /// ```
+    /// use tinladle::{ChromaFormat, Plane, Settings};
+    /// let settings = Settings { luma_depth: 10, ..Settings::new(64, 64, ChromaFormat::Yuv420) };
+    /// assert_eq!(Plane::ALL.map(|plane| settings.move_bound(plane)), [384, 48, 48]);
+    /// ```
+    pub fn move_bound(&self, plane: Plane) -> u32 {
+        let at_depth_8 = if plane == Plane::Y { 96 } else { 48 };
+        at_depth_8 << self.bits_above_8(plane)
+    }
 }

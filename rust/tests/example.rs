@@ -7,7 +7,7 @@ mod make_example;
 mod common;
 
 use std::fs;
-use std::path::Path;
+use std::path::{Path, PathBuf};
 
 use common::run;
 use common::tool::{folder, tinladle};
@@ -60,14 +60,21 @@ fn suppressed_cells_keep_their_samples() {
 }
 
 const README: &str = include_str!("../../README.md");
+const OF_THE_CRATE: &str = include_str!("../README.md");
 
-/// What examples/run.sh prints, by the commands that stand in it, in a folder with the same paths.
-fn printed() -> String {
-    let at = folder("example");
+/// A folder with the example, and with the paths of examples/run.sh.
+fn with_the_example(name: &str) -> PathBuf {
+    let at = folder(name);
     fs::create_dir_all(at.join("examples")).unwrap();
     fs::create_dir_all(at.join("target/example")).unwrap();
     let pic = "examples/example.pic";
     fs::copy(Path::new(env!("CARGO_MANIFEST_DIR")).join("..").join(pic), at.join(pic)).unwrap();
+    at
+}
+
+/// What examples/run.sh prints, by the commands that stand in it.
+fn printed() -> String {
+    let at = with_the_example("example");
     let script = include_str!("../../examples/run.sh");
     let commands: Vec<Vec<&str>> =
         script.lines().filter_map(|line| line.strip_prefix("tinladle ")).map(|w| w.split(' ').collect()).collect();
@@ -88,9 +95,9 @@ fn the_root_readme_shows_what_the_script_prints() {
     assert_eq!(shown, printed);
 }
 
-/// The numbers that end the README's line of this name.
-fn shown(name: &str) -> [usize; 3] {
-    let line = README.lines().find_map(|line| line.trim_start().strip_prefix(name)).unwrap();
+/// The numbers that end the line of this name in a README.
+fn numbers_in(readme: &str, name: &str) -> [usize; 3] {
+    let line = readme.lines().find_map(|line| line.trim_start().strip_prefix(name)).unwrap();
     let numbers: Vec<usize> = line.split_whitespace().map(|word| word.parse().unwrap()).collect();
     numbers.try_into().unwrap()
 }
@@ -110,9 +117,38 @@ fn the_counts_in_the_root_readme_are_those_of_the_planes() {
     }
     for (row, tiles) in moved.iter().enumerate() {
         for (column, counts) in tiles.iter().enumerate() {
-            assert_eq!(shown(&format!("tile column {column}, row {row}")), *counts);
+            assert_eq!(numbers_in(README, &format!("tile column {column}, row {row}")), *counts);
         }
     }
     let whole = [0, 1, 2].map(|plane| moved.iter().flatten().map(|counts| counts[plane]).sum());
-    assert_eq!(shown("whole picture"), whole);
+    assert_eq!(numbers_in(README, "whole picture"), whole);
+}
+
+#[test]
+fn the_crates_readme_shows_what_diff_says() {
+    let at = with_the_example("example_diff");
+    let (before, after) = ("examples/example.pic", "target/example/filtered.pic");
+    assert_eq!(tinladle(&at, &["deblock", before, after]).status, 0);
+    let ran = tinladle(&at, &["diff", before, after]);
+    assert_eq!((ran.status, ran.err.as_str()), (1, ""));
+    assert!(OF_THE_CRATE.contains(&format!("```text\n{}```\n", ran.out)), "not in README.md as it is:\n{}", ran.out);
+}
+
+#[test]
+fn the_farthest_moves_in_the_crates_readme_are_those_of_the_planes() {
+    let picture = shipped();
+    let finished = run(&picture).unwrap();
+    // Distance, column, row, by plane.
+    let mut found = [[0; 3]; 3];
+    for (plane, width) in [192, 96, 96].into_iter().enumerate() {
+        let moves = picture.planes.samples()[plane].iter().zip(finished.samples()[plane]);
+        for (i, (before, after)) in moves.enumerate() {
+            let distance = usize::from(*before.max(after) - *before.min(after));
+            if distance > found[0][plane] {
+                [found[0][plane], found[1][plane], found[2][plane]] = [distance, i % width, i / width];
+            }
+        }
+    }
+    let shown = ["farthest move", "at column", "at row"].map(|name| numbers_in(OF_THE_CRATE, name));
+    assert_eq!(shown, found);
 }

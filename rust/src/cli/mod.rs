@@ -3,6 +3,7 @@
 mod allocator;
 mod closed;
 mod commands;
+mod farthest;
 mod help;
 mod options;
 mod output;

@@ -1,6 +1,6 @@
 //! Counts of samples by tile and plane, as text.
 
-use std::fmt::Write;
+use std::fmt::Display;
 
 use tinladle::cut::{self, Tile};
 use tinladle::{Plane, Settings};
@@ -33,18 +33,17 @@ impl Counts {
 
     /// A line for each tile and one for the whole; `what` heads the tiles' names.
     pub fn text(&self, what: &str) -> String {
-        let mut text = String::new();
-        let mut line = |name: &str, cells: [String; 3]| {
-            // Writing to a string cannot fail.
-            let _ = writeln!(text, "  {name:<24}{:>10}{:>10}{:>10}", cells[0], cells[1], cells[2]);
-        };
-        line(what, Plane::ALL.map(|plane| plane.to_string()));
+        let mut text = line(what, Plane::ALL);
         for (tile, counts) in &self.tiles {
-            line(&name(tile), counts.map(|count| count.to_string()));
+            text += &line(&name(tile), *counts);
         }
-        line("whole picture", self.sums().map(|sum| sum.to_string()));
-        text
+        text + &line("whole picture", self.sums())
     }
+}
+
+/// A line of a table with a column for each plane.
+pub fn line(name: &str, [y, cb, cr]: [impl Display; 3]) -> String {
+    format!("  {name:<24}{y:>10}{cb:>10}{cr:>10}\n")
 }
 
 /// A tile's name in every table.

@@ -53,7 +53,8 @@ pub static VERBS: &[Verb] = &[
         needs: None,
         arguments: "A B",
         takes: &[],
-        help: "the samples that differ between two pictures, by tile and plane",
+        help: "the samples that differ between two pictures, by tile and plane,\n\
+               and the farthest move in each plane, beside the bound",
         run: diff::run,
     },
     Verb {
@@ -61,7 +62,8 @@ pub static VERBS: &[Verb] = &[
         needs: None,
         arguments: "IN OUT.ppm",
         takes: &[],
-        help: "before, after and the moved samples marked, side by side",
+        help: "before, after and the moved samples marked, side by side;\n\
+               the farther a sample moved, the brighter its mark",
         run: picture::run,
     },
     Verb {

@@ -3,18 +3,29 @@
 use std::path::Path;
 
 use super::{filter, load};
+use crate::cli::farthest::FarthestMoves;
 use crate::cli::progress::Progress;
 use crate::cli::table::Counts;
 use crate::cli::verbs::Answer;
 use crate::cli::words::Words;
 use crate::cli::work::{Outcome, alone, bad};
 use crate::counted::counted;
-use tinladle::{Settings, cut};
+use tinladle::{Plane, Settings, cut};
 
 /// Settings, as far as they must agree for samples to be compared, in words.
 fn shape(s: &Settings) -> String {
     let (luma, chroma) = (s.luma_depth, s.chroma_depth);
     format!("{} by {}, format {}, depths {luma} and {chroma}", s.width, s.height, s.chroma_format)
+}
+
+/// What follows where a sample is too far; nothing where none is. Filtering twice may move a sample twice as far.
+fn not_filtered(too_far: &[Plane]) -> String {
+    if too_far.is_empty() {
+        return String::new();
+    }
+    let planes: Vec<String> = too_far.iter().map(Plane::to_string).collect();
+    let why = "filtering cannot have moved a sample that far, so neither is the other filtered once";
+    format!("  too far in {}: {why}\n", planes.join(", "))
 }
 
 fn compared(a: &Path, b: &Path, progress: &Progress) -> Outcome {
@@ -37,7 +48,9 @@ fn compared(a: &Path, b: &Path, progress: &Progress) -> Outcome {
         return Ok((format!("{both}: no sample differs\n"), 0));
     }
     let head = format!("{both}: {}\n", counted(counts.total(), "sample differs", "samples differ"));
-    Ok((head + &counts.text("samples that differ"), 1))
+    let moves = FarthestMoves::of(&p.settings, p.samples(), q.samples());
+    let text = head + &counts.text("samples that differ") + &moves.text();
+    Ok((text + &not_filtered(&moves.too_far()), 1))
 }
 
 pub fn run(words: &Words) -> Answer {

@@ -18,8 +18,9 @@ fn drawn(input: &Path, output: &Path, progress: &Progress) -> Outcome {
     output::write_whole(output, |sink| image::write_ppm(&stored.picture.picture(), &finished, sink))
         .map_err(|error| unwritten(output, error))?;
     let palette = if stored.picture.picture().palette_cells() > 0 { "; palette cells green" } else { "" };
-    let note = format!("before, after, and the moved samples (luma red, chroma blue, both magenta{palette})");
-    Ok((format!("{}  picture: {}: {note}\n", accepted(input, &stored), output.display()), 0))
+    let what = format!("{}: before, after, and the moved samples", output.display());
+    let marks = format!("luma red, chroma blue, both magenta; the farther, the brighter{palette}");
+    Ok((format!("{}  picture: {what}\n  ({marks})\n", accepted(input, &stored)), 0))
 }
 
 pub fn run(words: &Words) -> Answer {
