@@ -31,23 +31,17 @@ pub fn picture(random: &mut Random) -> Picture {
         cb_offset: offset(random, format),
         cr_offset: offset(random, format),
         pcm_switch: random.chance(50),
-        planes: [vec![], vec![], vec![]],
-        out_lengths: [0; 3],
-        cells: vec![],
         slices: slices(random),
         columns: vec![0],
         rows: vec![0],
+        ..Picture::default()
     };
     if random.chance(50) {
         p.columns = generate::starts(random, p.width, p.log2_ctb, 20);
         p.rows = generate::starts(random, p.height, p.log2_ctb, 22);
     }
     p.cells = cells(random, &p);
-    for plane in 0..3 {
-        let (columns, rows) = p.plane_size(plane);
-        p.planes[plane] = far_content::plane(random, plane == 0, columns, rows, p.plane_depth(plane));
-        p.out_lengths[plane] = columns * rows;
-    }
+    generate::fill(&mut p, |plane, columns, rows, depth| far_content::plane(random, plane == 0, columns, rows, depth));
     p
 }
 

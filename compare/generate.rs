@@ -64,12 +64,10 @@ pub fn drawn(random: &mut Random, size: Sizes) -> Picture {
         cb_offset: offset(random),
         cr_offset: offset(random),
         pcm_switch: random.chance(50),
-        planes: [vec![], vec![], vec![]],
-        out_lengths: [0; 3],
-        cells: vec![],
         slices: slices(random),
         columns: vec![0],
         rows: vec![0],
+        ..Picture::default()
     };
     if random.chance(75) {
         p.columns = starts(random, p.width, p.log2_ctb, 20);
@@ -77,12 +75,17 @@ pub fn drawn(random: &mut Random, size: Sizes) -> Picture {
     }
     p.cells = cells(random, &p);
     mark_suppressed(random, &mut p);
+    fill(&mut p, |_, columns, rows, depth| content::plane(random, columns, rows, depth));
+    p
+}
+
+/// Gives each plane its samples, made from its number, its columns and rows and its depth, and the output planes their lengths.
+pub fn fill(p: &mut Picture, mut samples: impl FnMut(usize, usize, usize, u32) -> Vec<u16>) {
     for plane in 0..3 {
         let (columns, rows) = p.plane_size(plane);
-        p.planes[plane] = content::plane(random, columns, rows, p.plane_depth(plane));
+        p.planes[plane] = samples(plane, columns, rows, p.plane_depth(plane));
         p.out_lengths[plane] = columns * rows;
     }
-    p
 }
 
 /// Tile starts along one direction: none but the first, some, or as many as there can be.

@@ -6,6 +6,7 @@
 
 use std::process::ExitCode;
 
+use crate::generate;
 use crate::moves;
 use crate::picture::{HORIZONTAL, PLANE_NAMES, Picture, VERTICAL, scales};
 use crate::random::Random;
@@ -63,21 +64,13 @@ fn blank(format: u32, luma_depth: u32, chroma_depth: u32) -> Picture {
         luma_depth,
         chroma_depth,
         log2_ctb: 4,
-        cb_offset: 0,
-        cr_offset: 0,
-        pcm_switch: false,
-        planes: [vec![], vec![], vec![]],
-        out_lengths: [0; 3],
         cells: [51 + 64, VERTICAL | HORIZONTAL, 2, 2, 0, 0, 0, 0].repeat(16 * across * down),
         slices: vec![0, 12, 12, 1],
         columns: vec![0],
         rows: vec![0],
+        ..Picture::default()
     };
-    for plane in 0..3 {
-        let (columns, rows) = p.plane_size(plane);
-        p.out_lengths[plane] = columns * rows;
-        p.planes[plane] = vec![0; columns * rows];
-    }
+    generate::fill(&mut p, |_, columns, rows, _| vec![0; columns * rows]);
     p
 }
 

@@ -5,13 +5,11 @@ farthest distance of a sample from its original, and the place of the first samp
 the plane: 0 and 0 where nothing moves. A truncated record has the line `short`. The distances are worked out here, of the planes
 that the oracle leaves, or the second program where it decides."""
 
-import subprocess
-
 from ledger import SCALES, verdict
 from picture_case import edges
 from picture_records import LOSSLESS, PALETTE, PCM, Picture, damage, decided, random_picture
 from records import Random
-from stored import stop
+from stored import first_difference, run_program
 
 BOUNDS = (96, 48, 48)  # of Y, Cb and Cr at depth 8
 TOP_SLICE = (0, 12, 12, 1)  # both offsets at the top
@@ -59,17 +57,13 @@ def expected(pictures):
 
 def differs(program, data, wanted, before=0):
     """Whether PROGRAM prints other lines than these of some records; `before` counts the records that came before."""
-    try:
-        done = subprocess.run([program], input=data, stdout=subprocess.PIPE)
-    except OSError as error:
-        stop(f"{program} cannot be run: {error.strerror}")
-    if done.returncode:
-        print(f"DIFFERENCE: PROGRAM ended with status {done.returncode}")
+    printed = run_program(program, data)
+    if printed is None:
         return True
-    given = done.stdout.decode(errors="replace").splitlines(keepends=True)
+    given = printed.decode(errors="replace").splitlines(keepends=True)
     if given == wanted:
         return False
-    number = next((n for n, pair in enumerate(zip(wanted, given)) if pair[0] != pair[1]), min(len(wanted), len(given)))
+    number = first_difference(wanted, given)
     print(f"DIFFERENCE at record {before + number + 1} (the first is 1)")
     for name, lines in (("expected:", wanted), ("actual:  ", given)):
         print(name, lines[number].rstrip("\n") if number < len(lines) else "(nothing)")

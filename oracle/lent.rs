@@ -16,7 +16,7 @@ pub const PLAIN_SLICE: [u8; SLICE_BYTES] = [0, 6, 6, 1];
 
 pub const PLANE_NAMES: [&str; 3] = ["Y", "Cb", "Cr"];
 
-#[derive(Clone, PartialEq)]
+#[derive(Clone, PartialEq, Default)]
 pub struct Picture {
     pub width: u32,
     pub height: u32,

@@ -15,6 +15,7 @@ sys.dont_write_bytecode = True
 from conversion import converted, first_out_of_rule, whole
 from ledger import CELL_BYTES
 from records import Random
+from stored import first_difference
 
 PART = 32768  # the bytes that the program takes at once
 LONGEST = 65535
@@ -90,7 +91,7 @@ def compare(input_path, expected_path, actual_path):
     if actual == expected:
         print("no difference")
         return 0
-    at = next((i for i, pair in enumerate(zip(expected, actual)) if pair[0] != pair[1]), min(len(expected), len(actual)))
+    at = first_difference(expected, actual)
     number, start = 0, 0
     while number < len(lists) and start + 2 + len(lists[number]) <= at:
         start += 2 + len(lists[number])

@@ -21,7 +21,7 @@ sys.dont_write_bytecode = True
 import conversion
 from ledger import CELL_BYTES, SCALES, chroma_length, verdict
 from records import Random
-from stored import run_oracle
+from stored import first_difference, run_oracle
 
 MARK = 0x53484C54
 HEAD = struct.Struct("<I6I2iI10I")
@@ -463,8 +463,7 @@ def compare(input_path, expected_path, actual_path):
     if wanted == given:
         print(f"no difference; {check_forms(pictures, given)}; {check_conversions(pictures, given)}")
         return 0
-    number = next((i for i, pair in enumerate(zip(wanted, given)) if pair[0] != pair[1]),
-                  min(len(wanted), len(given)))
+    number = first_difference(wanted, given)
     differ = sum(a != b for a, b in zip(wanted, given))
     print(f"DIFFERENCE at record {number + 1} (the first is 1); lines that differ: {differ}")
     print("expected:", wanted[number] if number < len(wanted) else "(nothing)")

@@ -13,7 +13,7 @@ from collections import Counter
 sys.dont_write_bytecode = True
 
 import bench_model
-from stored import run_oracle
+from stored import first_difference, run_oracle
 
 RECORD = 72
 
@@ -181,8 +181,7 @@ def compare(data, expected, actual):
     if given == wanted:
         print("DIFFERENCE: the same lines, but not the same line ends")
         return 1
-    number = next((i for i, pair in enumerate(zip(wanted, given)) if pair[0] != pair[1]),
-                  min(len(wanted), len(given)))
+    number = first_difference(wanted, given)
     print(f"DIFFERENCE at record {number + 1} (the first is 1)")
     print("record:  ", data[number * RECORD:(number + 1) * RECORD].hex(" ", 2))
     print("expected:", " / ".join(wanted[number]) if number < len(wanted) else "(nothing)")

@@ -1,5 +1,5 @@
-"""What the scripts of this folder share: the run of an oracle, and the files that they make, written or held to what is
-there."""
+"""What the scripts of this folder share: the run of an oracle and of a program that is held to it, and the files that they
+make, written or held to what is there."""
 
 import subprocess
 import sys
@@ -33,6 +33,24 @@ def run_oracle(name, data):
         said = " ".join(done.stderr.decode(errors="replace").splitlines()[:3])
         stop(f"target/oracle/{name} ended with status {done.returncode}: {said}")
     return done.stdout, done.stderr.decode()
+
+
+def run_program(program, data):
+    """What PROGRAM writes to standard output; None where it ends with another status than 0, which is a difference."""
+    try:
+        done = subprocess.run([program], input=data, stdout=subprocess.PIPE)
+    except OSError as error:
+        stop(f"{program} cannot be run: {error.strerror}")
+    if done.returncode:
+        print(f"DIFFERENCE: PROGRAM ended with status {done.returncode}")
+        return None
+    return done.stdout
+
+
+def first_difference(wanted, given):
+    """The first place at which two sequences differ, or the length of the shorter one."""
+    pairs = enumerate(zip(wanted, given))
+    return next((place for place, pair in pairs if pair[0] != pair[1]), min(len(wanted), len(given)))
 
 
 def store(files, checking):

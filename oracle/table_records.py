@@ -12,14 +12,13 @@ each end. The outputs are what the oracle prints (run build.sh first). The scrip
 Python model's, by whose rule the table's text is made too: of an entry the Rust is the witness.
 """
 
-import subprocess
 import sys
 
 sys.dont_write_bytecode = True
 
 from bench_model import tc_at_8
 from records import answered, compare, record, tally
-from stored import is_checking, stop, store
+from stored import is_checking, run_program, store
 
 FLAT = 4 * [8 * [0]]
 STRENGTHS = (1, 2)
@@ -92,14 +91,8 @@ def every_average():
 def beside(program):
     """1 where PROGRAM does not print what the oracle prints, else 0."""
     data, output, _ = answered([*every_average(), *past_the_ends()])
-    try:
-        done = subprocess.run([program], input=data, stdout=subprocess.PIPE)
-    except OSError as error:
-        stop(f"{program} cannot be run: {error.strerror}")
-    if done.returncode:
-        print(f"DIFFERENCE: PROGRAM ended with status {done.returncode}")
-        return 1
-    return compare(data, output, done.stdout)
+    printed = run_program(program, data)
+    return 1 if printed is None else compare(data, output, printed)
 
 
 def main():
