@@ -18,9 +18,9 @@ Inv-loop before after n distance₀ place₀ k₀ distance place k =
 abbrev μ-loop : tie.MeasureT-loop
 μ-loop before after n distance₀ place₀ k₀ distance place k = n - k
 
--- the way back from the end of a turn to the loop's head
+-- the way back from the end of a turn to the loop's head, by where both samples are read
 abbrev head : tie.Joined1 Inv-loop μ-loop → tie.At-loop Inv-loop μ-loop
-head c = c .before .before .before .before .before
+head c = let samples = c .before .before in samples .before .before .before
 
 loop-again : tie.Need-loop-again Inv-loop μ-loop
 loop-again c =
