@@ -54,7 +54,7 @@ fn wanted() -> Vec<(u32, u32, u32)> {
     every.chain(TWO_DEPTHS).collect()
 }
 
-/// A small picture with a whole block of 8 on each side of a crossing in every plane: QP 51, bS 2 at every edge, and both offsets at the top.
+/// A small picture with a whole block of 8 on each side of a crossing in every plane: QP 51, bS 2 at every edge, both offsets at the top.
 fn blank(format: u32, luma_depth: u32, chroma_depth: u32) -> Picture {
     let (across, down) = scales(format);
     let mut p = Picture {
