@@ -1,8 +1,9 @@
 -- Document 01, 'The cut': "Term 3 counts, over all planes, the positions of the cut whose sample in the cut's output
 -- differs from the sheet's output at that position moved by the tile's first column and row in that plane."
-use Prim.Native.Nat.{ℕ, zero, suc, _+_}
+use Prim.Native.Nat.{ℕ, _+_}
 use mathlib.Core.Bool.{cond}
 use lib.Dec.{eqb}
+use Rattle.ints.specs.Sum.{sum}
 use Rattle.picture.specs.Cut.{tilePart, cut}
 use Rattle.picture.specs.Picture.{Picture, Planes, planeOf, planeWidth}
 use Rattle.picture.specs.Plane.{Plane, Part, at}
@@ -11,11 +12,6 @@ use Rattle.picture.specs.Scale.{Component, Y, Cb, Cr}
 -- 1 where two samples differ
 abbrev pub differ : ℕ → ℕ → ℕ
 differ m n = cond (eqb m n) 0 1
-
--- f 0 + f 1 + .. + f (n - 1)
-abbrev pub sum : ℕ → (ℕ → ℕ) → ℕ
-sum zero f = 0
-sum (suc n) f = sum n f + f n
 
 -- the positions of a part in which P′ differs from P moved there
 unfoldable pub differing : Plane → Plane → Part → ℕ

@@ -9,16 +9,14 @@ use native.Mathlib.Omega.{arith}
 use borrow.Author.Tests.{eq-eqb, ne-eqb}
 use lib.Dec.{eqb}
 use lib.ListN.{length, getD}
-use Rattle.filter.specs.Count.{differ, sum, differing}
+use Rattle.ints.proofs.Sums.{sum-ext}
+use Rattle.ints.specs.Sum.{sum}
+use Rattle.filter.specs.Count.{differ, differing}
 use Rattle.picture.specs.Plane.{Part, at}
 use Rattle.picture.proofs.Index.{row-step}
 use Rattle.tiles_apart.proofs.Parts.{index}
 use Rattle.tile_parts.specs.Parts.{Room, RowRoom, differingRow}
 use Rattle.tile_parts.proofs.Cropped.{room-small}
-
-sum-ext : (n : ℕ) (f g : ℕ → ℕ) → ((k : ℕ) → k < n → f k ≡ g k) → sum n f ≡ sum n g
-sum-ext zero f g h = refl
-sum-ext (suc n) f g h = ap₂ _+_ (sum-ext n f g (λ k l. h k (omega arith))) (h n (omega arith))
 
 differ-most : (m n : ℕ) → differ m n ≤ 1
 differ-most m n = go (eqb m n)

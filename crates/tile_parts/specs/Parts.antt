@@ -3,7 +3,8 @@ use Prim.Native.Nat.{ℕ, _+_, _*_, _/_, _%_, _≤_, _<_}
 use mathlib.Core.Path.{_≡_}
 use mathlib.Core.List.{List}
 use lib.ListN.{length, getD}
-use Rattle.filter.specs.Count.{differ, sum}
+use Rattle.ints.specs.Sum.{sum}
+use Rattle.filter.specs.Count.{differ}
 use Rattle.picture.specs.Plane.{Part}
 use Rattle.picture.specs.Scale.{chromaAcross, chromaDown, fromLuma, cellOf}
 use Rattle.tile_parts.specs.declared.Part as Code

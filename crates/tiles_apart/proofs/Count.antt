@@ -6,8 +6,9 @@ use mathlib.Core.Logic.{⊎-elim}
 use native.Mathlib.Omega.{arith}
 use borrow.Author.Tests.{eq-eqb, eqb-true}
 use lib.Dec.{eqb}
-use Rattle.filter.specs.Count.{differ, sum, differing, differences}
 use Rattle.ints.proofs.Laws.{either}
+use Rattle.ints.specs.Sum.{sum}
+use Rattle.filter.specs.Count.{differ, differing, differences}
 use Rattle.picture.specs.Cut.{tilePart, cut}
 use Rattle.picture.specs.Picture.{Picture, Planes, planeOf, planeWidth}
 use Rattle.picture.specs.Plane.{Plane, Part, at}
