@@ -13,7 +13,7 @@ use Rattle.picture.specs.declared.Settings as Code
 use Rattle.picture.specs.Given.{bare, pictureOf, settingsOf}
 use Rattle.picture.specs.Ledger.{Cause, Entry, Verdict, anyOf, entry, firstBad, firstOf, once, placeOf}
 use Rattle.picture.specs.Picture.{Picture, Planes}
-use Rattle.picture.proofs.Ledger.{AllGood, none-out, none-part, once-out, passed, returned, to-fact}
+use Rattle.picture.proofs.Ledger.{AllGood, NoneOf, none-out, none-part, once-out, passed, returned, to-fact}
 use Rattle.checks.specs.Lengths.{badLengths}
 use Rattle.list_checks.proofs.Places.{all-good}
 use Rattle.ledger.specs.Parts.{Settled, listsPart, settingsPart}
@@ -89,11 +89,17 @@ goes-past-all (d ∷ r) m h left =
 
 -- ---- what causes 1 to 6 leave where they do not apply
 
+pub sizes-fit : (s : Code.Settings) → NoneOf (badSize (s .width) ++ badSize (s .height))
+    → (s .width ≤ 8192) × (s .height ≤ 8192)
+sizes-fit s h = search to-fact depth 1
+
+pub depths-fit : (s : Code.Settings) → NoneOf (badDepths (settingsOf s))
+    → (s .«luma_depth» ≤ 16) × (s .«chroma_depth» ≤ 16)
+depths-fit s h = search to-fact depth 1
+
 module _ (s : Code.Settings) (good : AllGood (settingsPart (bare s))) where
   pub sizes : (s .width ≤ 8192) × (s .height ≤ 8192)
-  sizes =
-      let h1 = once-out (badSize (s .width) ++ badSize (s .height)) (good .0) in
-      search to-fact depth 1
+  sizes = sizes-fit s (once-out (badSize (s .width) ++ badSize (s .height)) (good .0))
 
   pub settled : (originals : Planes) (cells slices columns rows : List ℕ) (lent : List Bool) {b : Bool}
       → b ≡ anyOf (badLengths lent (pictureOf s originals cells slices columns rows)) → b ≡ false → Settled s cells

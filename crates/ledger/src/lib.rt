@@ -2,11 +2,13 @@
 mod lists;
 mod numbers;
 mod order;
+mod planes;
 mod settings;
 
 pub use numbers::number_of;
 pub use numbers::place_of;
 pub use order::check;
+pub use planes::check_planes;
 
 // What the ledger answers. A place is that of the first bad record, start, cell or sample.
 pub enum Verdict {

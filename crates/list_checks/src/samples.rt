@@ -3,10 +3,9 @@ use ints::largest_at;
 use picture::Settings;
 ghost use Prim.Native.Nat.{ℕ, _+_, _≤_, _<_};
 ghost use mathlib.Core.Path.{_≡_};
-ghost use mathlib.Core.List.{[]};
 ghost use lib.ListN.{length, getD};
 ghost use Rattle.picture.specs.Causes.{cause10};
-ghost use Rattle.picture.specs.Given.{pictureOf};
+ghost use Rattle.picture.specs.Given.{ofPlanes};
 ghost use Rattle.picture.specs.Ledger.{placeOf};
 ghost use Rattle.picture.specs.Lent.{given, planesGiven};
 ghost use Rattle.list_checks.specs.Samples.{above, bitsOf};
@@ -58,7 +57,7 @@ fn first_bad_sample(plane: &[u16], largest: u16) -> usize
 // 10. The first original sample above its largest, counted through Y, Cb, Cr; or the number of samples where none is.
 pub fn first_bad_original(settings: Settings, y: &[u16], cb: &[u16], cr: &[u16]) -> usize
     requires { ⌜ (settings .«luma_depth» ≤ 16) × (settings .«chroma_depth» ≤ 16) ⌝ }
-    ensures { λ r. ⌜ r ≡ placeOf (cause10 (pictureOf settings (planesGiven y cb cr) [] [] [] [])) ⌝ }
+    ensures { λ r. ⌜ r ≡ placeOf (cause10 (ofPlanes settings (planesGiven y cb cr))) ⌝ }
 {
     let in_y = first_bad_sample(y, largest_at(settings.luma_depth));
     if in_y < y.len() {

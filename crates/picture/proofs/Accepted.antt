@@ -18,6 +18,7 @@ use Rattle.picture.specs.Accepted.{
   StartsOk,
   CellOk,
   StrengthsOk,
+  GivenPlanesOk,
   PictureOk,
   Accepted,
 }
@@ -45,6 +46,7 @@ use Rattle.picture.specs.Causes.{
   cause10,
   cellRules,
   ledger,
+  planesLedger,
   verdict,
 }
 use Rattle.picture.specs.Cell.{bit, cellByte, cellCount}
@@ -269,3 +271,51 @@ unfolding verdict
 accepted-is p outputs ok =
     picture-is (badPlanes p outputs) cellRules p (ok .picture) (planes-in p outputs (ok .outputs-long))
     (λ n h. strengths-in (cellByte (p .cells) n) (ok .strengths n h))
+
+-- ---- the planes alone
+
+pub planes-by : (p : Picture) → firstOf (planesLedger p) ≡ acceptance → GivenPlanesOk p
+planes-by p e =
+    let (g1, (g2, (g3, (g6, (g10, _))))) =
+    good-out (planesLedger p) (omega arith) (ap (λ (v : Verdict). v .number) e) in
+    let sizes = once-out (badSize (p .width) ++ badSize (p .height)) g1 in
+    let format = once-out (badFormat (p .settings)) g2 in
+    let depths = once-out (badDepths (p .settings)) g3 in
+    record {
+      width = search to-fact depth 1;
+      height = search to-fact depth 1;
+      format = search to-fact depth 1;
+      luma-low = search to-fact depth 1;
+      luma-high = search to-fact depth 1;
+      chroma-low = search to-fact depth 1;
+      chroma-high = search to-fact depth 1;
+      originals = planes-out p (p .originals) (once-out (badPlanes p (p .originals)) g6);
+      samples = λ c k h. ltb-false _ _ (samples-out p g10 c k h);
+    }
+
+pub planes-is : (p : Picture) → GivenPlanesOk p → firstOf (planesLedger p) ≡ acceptance
+planes-is p ok =
+    let t : Settings = p .settings in
+    let g1 = once-in (badSize (p .width) ++ badSize (p .height)) (search to-test depth 1) in
+    let g2 = once-in (badFormat t) (search to-test depth 1) in
+    let g3 = once-in (badDepths t) (search to-test depth 1) in
+    let g6 = once-in (badPlanes p (p .originals)) (planes-in p (p .originals) (ok .originals)) in
+    let g10 = samples-in p (λ c k h. le-ltb _ _ (ok .samples c k h)) in
+    good-in (planesLedger p) (g1, (g2, (g3, (g6, (g10, tt)))))
+
+-- those of a picture that passes its own checks
+pub own-planes : (p : Picture) → PictureOk p → firstOf (planesLedger p) ≡ acceptance
+own-planes p ok =
+    let t = ok .settings in
+    planes-is p
+    record {
+      width = ok .width;
+      height = ok .height;
+      format = t .format;
+      luma-low = t .luma-low;
+      luma-high = t .luma-high;
+      chroma-low = t .chroma-low;
+      chroma-high = t .chroma-high;
+      originals = ok .originals;
+      samples = ok .samples;
+    }

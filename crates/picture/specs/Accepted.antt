@@ -41,6 +41,12 @@ pub record SettingsOk (t : Settings) : Type 0 where
 abbrev pub PlanesOk : Picture → Planes → Type 0
 PlanesOk p planes = (c : Component) → length (planeOf planes c) ≡ planeWidth p c * planeHeight p c
 
+-- no sample is above its largest
+abbrev pub SamplesOk : Picture → Type 0
+SamplesOk p =
+    (c : Component) (k : ℕ) → k < length (planeOf (p .originals) c)
+    → getD (planeOf (p .originals) c) k 0 ≤ largest (p .settings) c
+
 -- the four bytes of a slice record
 pub record SliceOk (byte : ℕ → ℕ) : Type 0 where
   pub disabled : byte 0 ≤ 1
@@ -89,9 +95,19 @@ pub record PictureOk (p : Picture) : Type 0 where
   pub columns : StartsOk (p .columns) 20 (ctbSize (p .settings)) (p .width)
   pub rows : StartsOk (p .rows) 22 (ctbSize (p .settings)) (p .height)
   pub cells : (n : ℕ) → n < cellCount p → CellOk (p .settings .luma-depth) (p .slices) (cellByte (p .cells) n)
-  pub samples :
-      (c : Component) (k : ℕ) → k < length (planeOf (p .originals) c)
-      → getD (planeOf (p .originals) c) k 0 ≤ largest (p .settings) c
+  pub samples : SamplesOk p
+
+-- planes alone, with their sizes, format and depths: where C-11's ledger of document 02 refuses nothing
+pub record GivenPlanesOk (p : Picture) : Type 0 where
+  pub width : SizeOk (p .width)
+  pub height : SizeOk (p .height)
+  pub format : p .settings .format ≤ 3
+  pub luma-low : 8 ≤ p .settings .luma-depth
+  pub luma-high : p .settings .luma-depth ≤ 16
+  pub chroma-low : 8 ≤ p .settings .chroma-depth
+  pub chroma-high : p .settings .chroma-depth ≤ 16
+  pub originals : PlanesOk p (p .originals)
+  pub samples : SamplesOk p
 
 -- C-14's rule, in every cell
 abbrev pub AllStrengthsOk : Picture → Type 0

@@ -173,6 +173,20 @@ ledger lent rules p =
     ∷ entry 10 (cause10 p)
     ∷ []
 
+-- Document 02, C-11: "Checks: the sheet's 1, 2, 3, 6 (the given planes only) and 10, in that order". So of cause 6 the
+-- planes' lengths alone, and of the lists beside the planes nothing.
+abbrev pub planesCause : Picture → Cause
+planesCause p = once (badPlanes p (p .originals))
+
+abbrev pub planesLedger : Picture → List Entry
+planesLedger p =
+    entry 1 (cause1 p)
+    ∷ entry 2 (cause2 (p .settings))
+    ∷ entry 3 (cause3 (p .settings))
+    ∷ entry 6 (planesCause p)
+    ∷ entry 10 (cause10 p)
+    ∷ []
+
 -- the stage's rules: document 01 has none besides the ranges, document 02's C-14 has these two, "under 9, in the same
 -- pass over the cells"
 abbrev pub cellRules : List Rule

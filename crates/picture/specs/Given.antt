@@ -32,6 +32,10 @@ pictureOf s originals cells slices columns rows = record {
   rows = rows;
 }
 
--- a picture of the settings alone, for what goes by them and by no list
+-- a picture of the settings and the planes, for what goes by them and by no other list
+abbrev pub ofPlanes : Code.Settings → Planes → Picture
+ofPlanes s originals = pictureOf s originals [] [] [] []
+
+-- a picture of the settings alone
 abbrev pub bare : Code.Settings → Picture
-bare s = pictureOf s (planesOf [] [] []) [] [] [] []
+bare s = ofPlanes s (planesOf [] [] [])

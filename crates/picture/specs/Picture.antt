@@ -49,6 +49,19 @@ withLists cells slices p = record {
   rows = p .rows;
 }
 
+-- the same picture with other planes
+abbrev pub withPlanes : Planes → Picture → Picture
+withPlanes planes p = record {
+  width = p .width;
+  height = p .height;
+  settings = p .settings;
+  originals = planes;
+  cells = p .cells;
+  slices = p .slices;
+  columns = p .columns;
+  rows = p .rows;
+}
+
 abbrev pub planeOf : Planes → Component → List ℕ
 planeOf p Y = p .y
 planeOf p Cb = p .cb

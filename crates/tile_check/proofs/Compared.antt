@@ -6,7 +6,7 @@ use mathlib.Core.List.{List}
 use native.Mathlib.Omega.{arith}
 use borrow.Author.Tests.{leb-false}
 use lib.ListN.{length}
-use Rattle.checks.proofs.Areas.{from-luma-most}
+use Rattle.picture.proofs.Scale.{from-luma-most}
 use Rattle.checks.proofs.Tests.{any-of, orOf}
 use Rattle.filter.specs.Count.{differences}
 use Rattle.filter.specs.Finished.{outputs}

@@ -8,8 +8,9 @@ use borrow.Author.Needs.{needs}
 use Rattle.picture.specs.Given.{bare}
 use Rattle.picture.specs.Picture.{planeHeight, planeWidth}
 use Rattle.picture.specs.Scale.{Cb, chromaAcross, chromaDown}
+use Rattle.picture.proofs.Scale.{from-luma-most}
 use Rattle.checks.specs.Lengths.{planeTests}
-use Rattle.checks.proofs.Areas.{area-fits, from-luma-most}
+use Rattle.checks.proofs.Areas.{area-fits}
 use Rattle.checks.proofs.Tests.{any-of}
 use Rattle.checks.proofs.lengths.bad_planes.Statement.{statement}
 use Rattle.checks.proofs.lengths.bad_planes.Tie as tie

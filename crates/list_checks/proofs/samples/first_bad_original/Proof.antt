@@ -2,11 +2,10 @@
 -- Assumes nothing.
 use Prim.Native.Nat.{_≤_}
 use mathlib.Core.Path.{_≡_}
-use mathlib.Core.List.{[]}
 use native.Mathlib.Omega.{arith}
 use borrow.Author.Needs.{needs}
 use Rattle.picture.specs.Causes.{samplesCause}
-use Rattle.picture.specs.Given.{pictureOf, planesOf}
+use Rattle.picture.specs.Given.{ofPlanes, planesOf}
 use Rattle.picture.specs.Ledger.{Cause, andThen, placeOf}
 use Rattle.picture.specs.Scale.{Component, Y, Cb, Cr}
 use Rattle.list_checks.proofs.Places.{place-most, in-first, in-second}
@@ -30,7 +29,7 @@ entry c = lists c .before .before .before
 abbrev plane : tie.Start → Component → Cause
 plane s =
     let a = s .args in
-    samplesCause (pictureOf (a .settings) (planesOf (a .y .now) (a .cb .now) (a .cr .now)) [] [] [] [])
+    samplesCause (ofPlanes (a .settings) (planesOf (a .y .now) (a .cb .now) (a .cr .now)))
 
 abbrev chroma : tie.Start → Cause
 chroma s = andThen (plane s Cb) (plane s Cr)
