@@ -1,0 +1,40 @@
+-- What is answered: a refusal without a sum, or acceptance with the sums of the planes.
+use Prim.Native.Nat.{ℕ, _<_}
+use mathlib.Core.Path.{_≡_, sym, ap, ap₂, _∙_}
+use mathlib.Core.Bool.{cond}
+use mathlib.Core.List.{List, [], _∷_}
+use native.Mathlib.Omega.{arith}
+use borrow.Author.Tests.{eq-eqb, ne-eqb}
+use lib.Dec.{eqb}
+use Rattle.picture.specs.Causes.{planesLedger}
+use Rattle.picture.specs.Ledger.{Verdict, acceptance, firstOf}
+use Rattle.picture.specs.Picture.{Picture}
+use Rattle.picture.specs.Scale.{Y, Cb, Cr}
+use Rattle.checksum.specs.Answer.{Answer, checksumAnswer, planeSum, sums}
+
+module _ (p : Picture) where
+  -- the answer by the ledger's
+  abbrev told : Verdict → Answer
+  told v = record { verdict = v; given = cond (eqb (v .number) 0) (sums p) [] }
+
+  pub refused : {v : Verdict} → v ≡ firstOf (planesLedger p) → 0 < v .number
+      → record { verdict = v; given = [] } ≡ checksumAnswer p
+  unfolding checksumAnswer
+  refused {v} e h =
+      let no-sum : told v ≡ record { verdict = v; given = [] } = rw (ne-eqb (v .number) 0 (omega arith)) in
+      sym no-sum ∙ ap told e
+
+  pub summed : acceptance ≡ firstOf (planesLedger p) → {l : List ℕ} → l ≡ sums p
+      → record { verdict = acceptance; given = l } ≡ checksumAnswer p
+  unfolding checksumAnswer
+  summed e h = ap (λ (l : List ℕ). record { verdict = acceptance; given = l }) h ∙ ap told e
+
+  -- a monochrome picture has one sum, every other three
+  pub one-sum : p .settings .format ≡ 0 → {y : ℕ} → y ≡ planeSum p Y → y ∷ [] ≡ sums p
+  one-sum mono e = rw (eq-eqb (p .settings .format) 0 mono) (ap (λ (n : ℕ). n ∷ []) e)
+
+  pub three-sums : (p .settings .format ≡ 0 → ⊥) → {y cb cr : ℕ} → y ≡ planeSum p Y → cb ≡ planeSum p Cb
+      → cr ≡ planeSum p Cr → y ∷ cb ∷ cr ∷ [] ≡ sums p
+  three-sums some ey ecb ecr =
+      let all : sums p ≡ planeSum p Y ∷ planeSum p Cb ∷ planeSum p Cr ∷ [] = rw (ne-eqb (p .settings .format) 0 some) in
+      (λ i. ey i ∷ ecb i ∷ ecr i ∷ []) ∙ sym all

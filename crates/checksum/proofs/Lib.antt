@@ -1,0 +1,5 @@
+mod Answers
+pub mod Known
+mod Masks
+mod Rows
+pub mod Same
