@@ -139,6 +139,43 @@ uint32_t tinladle_deblock(
 uint32_t tinladle_convert_cells(
     const uint8_t *cells, size_t cells_len, uint8_t *out_cells, size_t out_cells_len, uint64_t *place);
 
+/* The picture checksum of H.265, Annex D (decoded picture hash, hash_type 2), of a picture's finished planes: a sum for
+ * each plane, modulo 2^32. Where no filter comes after this one (SAO off), and a picture's planes are out_y, out_cb and
+ * out_cr of tinladle_deblock, these are the sums that its encoder wrote into the stream. For each sample, at column x
+ * and row y of its own plane,
+ *
+ *   mask = (x & 0xff) ^ (y & 0xff) ^ (x >> 8) ^ (y >> 8)
+ *
+ * and (sample & 0xff) ^ mask joins the sum; in a plane of a depth above 8, (sample >> 8) ^ mask joins too.
+ *
+ *   width, height             as above
+ *   chroma_format             as above
+ *   luma_depth, chroma_depth  as above; a plane's own depth decides whether its high parts join
+ *   y, y_len                  the luma samples, row by row: width * height
+ *   cb, cb_len                the Cb samples, row by row, in the format's own size; none in format 0
+ *   cr, cr_len                the Cr samples, likewise
+ *   sum_y, sum_cb, sum_cr     where the sums are stored; in format 0 that of luma alone
+ *   place                     where the place of the answer is stored, always
+ *
+ * Returned is 0, and the sums are stored; or the first of these causes in this order, with the numbers and places of
+ * the list above, and nothing but *place is written:
+ *
+ *   1   width or height not allowed                                     place 0
+ *   2   chroma_format above 3                                           place 0
+ *   3   a depth outside 8 to 16, in every format                        place 0
+ *   6   a plane not of its length                                       place 0
+ *   10  a sample above 2^depth - 1                                      the first such, counted through y, cb, cr
+ *
+ * The planes that tinladle_deblock leaves of an accepted picture are never refused.
+ *
+ * What a caller owes is as above. sum_y, sum_cb and sum_cr are never null, in format 0 neither, and lie apart from one
+ * another, from *place and from the planes.
+ */
+uint32_t tinladle_checksum(
+    uint32_t width, uint32_t height, uint32_t chroma_format, uint32_t luma_depth, uint32_t chroma_depth,
+    const uint16_t *y, size_t y_len, const uint16_t *cb, size_t cb_len, const uint16_t *cr, size_t cr_len,
+    uint32_t *sum_y, uint32_t *sum_cb, uint32_t *sum_cr, uint64_t *place);
+
 #ifdef __cplusplus
 }
 #endif

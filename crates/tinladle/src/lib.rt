@@ -2,6 +2,8 @@
 // include/tinladle.h declares them.
 mod cells;
 mod deblock;
+mod sums;
 
 pub use cells::tinladle_convert_cells;
 pub use deblock::tinladle_deblock;
+pub use sums::tinladle_checksum;
