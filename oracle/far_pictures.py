@@ -22,9 +22,9 @@ from pathlib import Path
 sys.dont_write_bytecode = True
 
 from far_made import made
-from far_records import beside, bound, differs, expected
+from far_records import beside, bound, expected
 from picture_records import unpack
-from stored import ROOT, is_checking, stop, store
+from stored import ROOT, differs_from_stored, is_checking, listed, stop, store
 
 FOLDER = "crates/far_pictures"
 SEARCH = ROOT / "target" / "compare" / "compare"
@@ -113,12 +113,9 @@ def write_or_check():
     lines = [line for *_, line in found]
     names = [name_of(picture, far, planes) for picture, (_, far, planes, _) in zip(pictures, found)]
     names += [*(case.name for case in cases), "one byte is missing"]
-    texts = [" ".join(line.split()[1:]) or "short" for line in lines]
-    widest = max(map(len, texts))
     files = {f"{FOLDER}/stdin": data + b"".join(case.picture.pack() for case in cases) + short,
              f"{FOLDER}/stdout": "".join(lines).encode(),
-             "oracle/far_pictures.txt": "".join(f"{number:3}  {text:{widest}}  {name}\n" for number, (text, name)
-                                                in enumerate(zip(texts, names), 1)).encode()}
+             "oracle/far_pictures.txt": listed(lines, names)}
     store(files, checking)
     print(f"{len(lines)} records of {len(files[f'{FOLDER}/stdin'])} bytes: {len(pictures)} found, {says}, with {places} places"
           f" and ways; {len(cases)} made by hand; one short")
@@ -128,8 +125,7 @@ def main():
     if sys.argv[1:2] == ["beside"] and len(sys.argv) == 5:
         sys.exit(beside(sys.argv[2], *map(int, sys.argv[3:])))
     if sys.argv[1:2] == ["stored"] and len(sys.argv) == 3:
-        data, text = ((ROOT / FOLDER / stream).read_bytes() for stream in ("stdin", "stdout"))
-        if differs(sys.argv[2], data, text.decode().splitlines(keepends=True)):
+        if differs_from_stored(sys.argv[2], FOLDER):
             sys.exit(1)
         print("no difference")
         return

@@ -9,7 +9,7 @@ from ledger import SCALES, verdict
 from picture_case import edges
 from picture_records import LOSSLESS, PALETTE, PCM, Picture, damage, decided, random_picture
 from records import Random
-from stored import first_difference, run_program
+from stored import differs
 
 BOUNDS = (96, 48, 48)  # of Y, Cb and Cr at depth 8
 TOP_SLICE = (0, 12, 12, 1)  # both offsets at the top
@@ -54,21 +54,6 @@ def expected(pictures):
 
 
 # ---- PROGRAM beside the oracle ----
-
-def differs(program, data, wanted, before=0):
-    """Whether PROGRAM prints other lines than these of some records; `before` counts the records that came before."""
-    printed = run_program(program, data)
-    if printed is None:
-        return True
-    given = printed.decode(errors="replace").splitlines(keepends=True)
-    if given == wanted:
-        return False
-    number = first_difference(wanted, given)
-    print(f"DIFFERENCE at record {before + number + 1} (the first is 1)")
-    for name, lines in (("expected:", wanted), ("actual:  ", given)):
-        print(name, lines[number].rstrip("\n") if number < len(lines) else "(nothing)")
-    return True
-
 
 def beside(program, count, seed):
     """1 where PROGRAM prints other lines of random pictures than are expected, else 0."""

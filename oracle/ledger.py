@@ -2,7 +2,8 @@
 
 Written from document 01 alone, and of document 02 C-19 for flag bit 4 and C-14 for strengths that need an edge. It shares
 nothing with the stage, nor with the customer's Rust, which refuses nothing. `verdict` takes a Picture of picture_records.py:
-any fields at all.
+any fields at all. A cause carries its number and what finds its place in a picture, or None; some of document 02's requests
+have some of the causes, in an order of their own.
 """
 
 # Chroma format: by what the width and the height of the luma plane are divided. Format 0 has empty chroma planes.
@@ -23,22 +24,42 @@ def size_allowed(n):
     return n in range(8, 8193, 8)
 
 
-def lengths_exact(picture):
-    luma = picture.width * picture.height
+def plane_lengths(picture):
     chroma = chroma_length(picture)
-    for y, cb, cr in [[len(plane) for plane in picture.planes], picture.out_lengths]:
-        if (y, cb, cr) != (luma, chroma, chroma):
-            return False
-    if len(picture.cells) != CELL_BYTES * (luma // 16):
+    return picture.width * picture.height, chroma, chroma
+
+
+def planes_exact(picture):
+    """Of the given planes alone."""
+    return tuple(map(len, picture.planes)) == plane_lengths(picture)
+
+
+def lengths_exact(picture):
+    if not planes_exact(picture) or picture.out_lengths != plane_lengths(picture):
+        return False
+    if len(picture.cells) != CELL_BYTES * (picture.width * picture.height // 16):
         return False
     if len(picture.slices) % SLICE_BYTES or len(picture.slices) > 2400:
         return False
     return 1 <= len(picture.columns) <= 20 and 1 <= len(picture.rows) <= 22
 
 
+def records(data, size):
+    return [data[start:start + size] for start in range(0, len(data), size)]
+
+
+def first_bad(allowed):
+    """The place of the first False, or None."""
+    return next((place for place, good in enumerate(allowed) if not good), None)
+
+
 def slice_allowed(record):
     disabled, beta, tc, across = record
     return disabled <= 1 and beta <= 12 and tc <= 12 and across <= 1
+
+
+def first_bad_slice(picture):
+    return first_bad(slice_allowed(record) for record in records(picture.slices, SLICE_BYTES))
 
 
 def first_bad_start(starts, samples, log2_ctb):
@@ -51,6 +72,15 @@ def first_bad_start(starts, samples, log2_ctb):
             return number
         before = start
     return None
+
+
+def first_bad_tile(picture):
+    """Rows are numbered on after the columns."""
+    column = first_bad_start(picture.columns, picture.width, picture.log2_ctb)
+    if column is not None:
+        return column
+    row = first_bad_start(picture.rows, picture.height, picture.log2_ctb)
+    return None if row is None else len(picture.columns) + row
 
 
 def ranges_allowed(record, luma_depth, slice_count):
@@ -67,50 +97,41 @@ def strengths_allowed(record):
     return (bs_v == 0 or flags & 1 != 0) and (bs_h == 0 or flags & 2 != 0)
 
 
-def records(data, size):
-    return [data[start:start + size] for start in range(0, len(data), size)]
+def first_bad_cell(picture, rule=True):
+    """One pass, with C-14's rule or without."""
+    slice_count = max(1, len(picture.slices) // SLICE_BYTES)
+    return first_bad(ranges_allowed(record, picture.luma_depth, slice_count) and (strengths_allowed(record) or not rule)
+                     for record in records(picture.cells, CELL_BYTES))
 
 
-def first_bad(allowed):
-    """The place of the first False, or None."""
-    return next((place for place, good in enumerate(allowed) if not good), None)
+def first_bad_sample(picture):
+    y, cb, cr = picture.planes
+    return first_bad([sample < 2 ** picture.luma_depth for sample in y]
+                     + [sample < 2 ** picture.chroma_depth for sample in (*cb, *cr)])
+
+
+def cause(number, allowed):
+    """One whose place is 0."""
+    return number, lambda picture: None if allowed(picture) else 0
+
+
+SIZES = cause(1, lambda picture: size_allowed(picture.width) and size_allowed(picture.height))
+FORMAT = cause(2, lambda picture: picture.format <= 3)
+DEPTHS = cause(3, lambda picture: all(8 <= depth <= 16 for depth in (picture.luma_depth, picture.chroma_depth)))
+CTB = cause(4, lambda picture: 4 <= picture.log2_ctb <= 6)
+OFFSETS = cause(5, lambda picture: all(-12 <= offset <= 12 for offset in (picture.cb_offset, picture.cr_offset)))
+LENGTHS, PLANE_LENGTHS = cause(6, lengths_exact), cause(6, planes_exact)
+SLICES, TILES, CELLS, SAMPLES = (7, first_bad_slice), (8, first_bad_tile), (9, first_bad_cell), (10, first_bad_sample)
+CELLS_BEFORE = 9, lambda picture: first_bad_cell(picture, rule=False)  # without C-14's rule
+
+
+def first_cause(picture, causes):
+    """Number and place by the first cause that holds; (0, 0) where none does."""
+    found = ((number, look(picture)) for number, look in causes)
+    return next(((number, place) for number, place in found if place is not None), (0, 0))
 
 
 def verdict(picture, rule=True):
     """Number and place; (0, 0) for an accepted picture. Without C-14's rule they are those of before the request."""
-    if not size_allowed(picture.width) or not size_allowed(picture.height):
-        return 1, 0
-    if picture.format > 3:
-        return 2, 0
-    if not all(8 <= depth <= 16 for depth in (picture.luma_depth, picture.chroma_depth)):
-        return 3, 0
-    if not 4 <= picture.log2_ctb <= 6:
-        return 4, 0
-    if not all(-12 <= offset <= 12 for offset in (picture.cb_offset, picture.cr_offset)):
-        return 5, 0
-    if not lengths_exact(picture):
-        return 6, 0
-
-    place = first_bad(slice_allowed(record) for record in records(picture.slices, SLICE_BYTES))
-    if place is not None:
-        return 7, place
-
-    column = first_bad_start(picture.columns, picture.width, picture.log2_ctb)
-    if column is not None:
-        return 8, column
-    row = first_bad_start(picture.rows, picture.height, picture.log2_ctb)
-    if row is not None:
-        return 8, len(picture.columns) + row
-
-    slice_count = max(1, len(picture.slices) // SLICE_BYTES)
-    place = first_bad(ranges_allowed(record, picture.luma_depth, slice_count) and (strengths_allowed(record) or not rule)
-                      for record in records(picture.cells, CELL_BYTES))
-    if place is not None:
-        return 9, place
-
-    y, cb, cr = picture.planes
-    place = first_bad([sample < 2 ** picture.luma_depth for sample in y]
-                      + [sample < 2 ** picture.chroma_depth for sample in (*cb, *cr)])
-    if place is not None:
-        return 10, place
-    return 0, 0
+    cells = CELLS if rule else CELLS_BEFORE
+    return first_cause(picture, [SIZES, FORMAT, DEPTHS, CTB, OFFSETS, LENGTHS, SLICES, TILES, cells, SAMPLES])

@@ -32,13 +32,20 @@ EDGELESS = "inj_all_444_10_000"
 EDGELESS_ANSWER = 9, 1
 
 
-def read(folder, name):
-    """The picture and the expected planes."""
-    data = gzip.decompress((folder / f"{name}.sheet.gz").read_bytes())
+def unzipped(folder, name):
+    return gzip.decompress((folder / f"{name}.gz").read_bytes())
+
+
+def read_picture(folder, name):
+    data = unzipped(folder, f"{name}.sheet")
     (picture, record), = unpack(data)
     assert record == data == picture.pack() and verdict(picture, rule=False) == (0, 0)
-    assert verdict(picture) == (EDGELESS_ANSWER if name == EDGELESS else (0, 0))
-    after = gzip.decompress((folder / f"{name}.expect.gz").read_bytes())
+    return picture
+
+
+def read_planes(folder, name, picture):
+    """The planes that another decoder left of a picture."""
+    after = unzipped(folder, f"{name}.expect")
     number, place = struct.unpack_from("<iQ", after)
     assert (number, place) == (0, 0)
     samples = struct.unpack(f"<{len(after[12:]) // 2}H", after[12:])
@@ -47,7 +54,24 @@ def read(folder, name):
         planes.append(list(samples[at:at + len(plane)]))
         at += len(plane)
     assert at == len(samples)
-    return picture, planes
+    return planes
+
+
+def read(folder, name):
+    """The picture and the expected planes."""
+    picture = read_picture(folder, name)
+    assert verdict(picture) == (EDGELESS_ANSWER if name == EDGELESS else (0, 0))
+    return picture, read_planes(folder, name, picture)
+
+
+def taken_from(folder):
+    """The names, the pictures as they were taken and the expected planes, in the order in which they are stored."""
+    if not folder.is_dir():
+        stop(f"{folder} is missing: run oracle/{Path(sys.argv[0]).name} with the folder of the real pictures, REAL")
+    names = sorted({path.name.removesuffix(".sheet.gz") for path in folder.glob("*.sheet.gz")} - {PARTING}) + [PARTING]
+    if len(names) != COUNT or not (folder / f"{PARTING}.sheet.gz").exists():
+        stop(f"{folder}: other real pictures than the {COUNT} that are stored, {PARTING} among them")
+    return names, *zip(*(read(folder, name) for name in names))
 
 
 def positions_differing(picture, planes, others):
@@ -89,14 +113,7 @@ def main():
     rest = arguments[checking:]
     if len(rest) > 1 or rest and rest[0].startswith("-"):
         sys.exit(__doc__)
-    folder = Path(rest[0]) if rest else REAL
-    if not folder.is_dir():
-        stop(f"{folder} is missing: run oracle/real_pictures.py [--check] REAL, the folder of the real pictures")
-
-    names = sorted({path.name.removesuffix(".sheet.gz") for path in folder.glob("*.sheet.gz")} - {PARTING}) + [PARTING]
-    if len(names) != COUNT or not (folder / f"{PARTING}.sheet.gz").exists():
-        stop(f"{folder}: other real pictures than the {COUNT} that are stored, {PARTING} among them")
-    taken, planes = zip(*(read(folder, name) for name in names))
+    names, taken, planes = taken_from(Path(rest[0]) if rest else REAL)
     stored = [picture.converted() for picture in taken]
     says = [f"not compared with the oracle, which is not built: {HOW}"]
     if oracle_path("picture").exists():

@@ -53,6 +53,34 @@ def first_difference(wanted, given):
     return next((place for place, pair in pairs if pair[0] != pair[1]), min(len(wanted), len(given)))
 
 
+def differs(program, data, wanted, before=0):
+    """Whether PROGRAM prints other lines than these of some records; `before` counts the records that came before."""
+    printed = run_program(program, data)
+    if printed is None:
+        return True
+    given = printed.decode(errors="replace").splitlines(keepends=True)
+    if given == wanted:
+        return False
+    number = first_difference(wanted, given)
+    print(f"DIFFERENCE at record {before + number + 1} (the first is 1)")
+    for name, lines in (("expected:", wanted), ("actual:  ", given)):
+        print(name, lines[number].rstrip("\n") if number < len(lines) else "(nothing)")
+    return True
+
+
+def differs_from_stored(program, folder):
+    """Whether PROGRAM prints another text than the one that is stored in a crate's folder."""
+    data, text = ((ROOT / folder / stream).read_bytes() for stream in ("stdin", "stdout"))
+    return differs(program, data, text.decode().splitlines(keepends=True))
+
+
+def listed(lines, names):
+    """The text that lists records: number, the rest of the line that is printed of each, or that line where it is a word, name."""
+    texts = [" ".join(line.split()[1:]) or line.strip() for line in lines]
+    widest = max(map(len, texts))
+    return "".join(f"{number:3}  {text:{widest}}  {name}\n" for number, (text, name) in enumerate(zip(texts, names), 1)).encode()
+
+
 def store(files, checking):
     """`files`: {name from the repository's root: bytes}."""
     for name, content in files.items():

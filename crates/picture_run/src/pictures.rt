@@ -1,13 +1,17 @@
 // What is done with one picture that was read. Each function answers whether all was written.
 use crate::Shown;
 use crate::Task;
+use checksum::Checksums;
+use checksum::picture_checksums;
 use ledger::Verdict;
 use moves::farthest_move;
+use picture::Settings;
 use picture_record::SAMPLES;
 use picture_record::front;
 use picture_record::length_at;
 use picture_record::settings;
 use picture_text::Moves;
+use picture_text::put_checksums;
 use picture_text::put_line;
 use picture_text::put_moves;
 use stage::apply_deblocking;
@@ -15,13 +19,35 @@ use tile_run::JUNK;
 use tile_run::LentSamples;
 use tile_run::tile_lines;
 ghost use mathlib.Core.Path.{_≡_};
-ghost use Rattle.picture.specs.Lent.{given};
+ghost use Rattle.checksum.specs.Answer.{answerOf};
+ghost use Rattle.ledger.specs.Numbered.{numbered};
+ghost use Rattle.picture.specs.Given.{ofPlanes};
+ghost use Rattle.picture.specs.Lent.{given, planesGiven};
 ghost use Rattle.picture_run.specs.Outputs.{lentOutputs};
+ghost use Rattle.picture_run.specs.Sums.{finishedAnswer};
+
+// The checksums of what the stage left, or its refusal.
+fn finished_checksums(
+    settings: Settings,
+    verdict: Verdict,
+    outy: &[u16],
+    outcb: &[u16],
+    outcr: &[u16],
+) -> Checksums
+    ensures { λ r. ⌜ answerOf r ≡
+        finishedAnswer (numbered verdict) (ofPlanes settings (planesGiven outy outcb outcr)) ⌝ }
+{
+    let Verdict::Accepted = verdict else {
+        return Checksums::Refused(verdict);
+    };
+    picture_checksums(settings, outy, outcb, outcr)
+}
 
 // The line of what the stage left.
 fn put_shown(
     shown: Shown,
     number: u64,
+    settings: Settings,
     verdict: Verdict,
     y: &[u16],
     cb: &[u16],
@@ -41,6 +67,12 @@ fn put_shown(
             },
         ),
         Shown::Planes => put_line(number, verdict, outy, outcb, outcr),
+        Shown::Checksums => {
+            put_checksums(
+                number,
+                finished_checksums(settings, verdict, outy, outcb, outcr),
+            )
+        }
     }
 }
 
@@ -73,7 +105,18 @@ fn stage_line(
         &mut outcb[..],
         &mut outcr[..],
     );
-    put_shown(shown, number, verdict, y, cb, cr, outy, outcb, outcr)
+    put_shown(
+        shown,
+        number,
+        settings(head),
+        verdict,
+        y,
+        cb,
+        cr,
+        outy,
+        outcb,
+        outcr,
+    )
 }
 
 // How long the output planes are.
@@ -147,6 +190,7 @@ pub(crate) fn answer(
             columns,
             rows,
         ),
+        Task::Checksums => put_checksums(number, picture_checksums(settings(head), y, cb, cr)),
         Task::Tiles => tile_lines(
             number,
             settings(head),

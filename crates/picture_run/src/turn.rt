@@ -128,3 +128,13 @@ pub fn run_moves() {
 pub fn run_tiles() {
     run(Task::Tiles);
 }
+
+// A line for each picture: the checksums of its planes as they are given.
+pub fn run_checksums() {
+    run(Task::Checksums);
+}
+
+// A line for each picture: the checksums of what the stage left of it.
+pub fn run_finished_checksums() {
+    run(Task::Stage(Shown::Checksums));
+}

@@ -2,11 +2,14 @@
 // contract: none of io's says what was written. Each function answers whether all was written.
 mod farthest;
 mod pictures;
+mod sums;
 mod words;
 
 pub use farthest::Moves;
 pub use farthest::put_moves;
 pub use pictures::put_line;
+pub use sums::put_checksums;
+pub use sums::put_sum;
 pub use words::Fingerprints;
 pub use words::put_fingerprints;
 pub use words::put_number;

@@ -22,21 +22,22 @@ pub fn put_number(n: u64) -> bool {
     put_number_then(n, b" ")
 }
 
-fn put_fingerprint(number: u64, end: &[u8]) -> bool {
-    if !io::print_hex(STDOUT_FILENO, number, 16) {
+// So many hexadecimal digits of a number, and what follows it.
+pub(crate) fn put_hex_then(n: u64, digits: usize, end: &[u8]) -> bool {
+    if !io::print_hex(STDOUT_FILENO, n, digits) {
         return false;
     }
     io::write_all(STDOUT_FILENO, end)
 }
 
 pub fn put_fingerprints(planes: Fingerprints) -> bool {
-    if !put_fingerprint(planes.y, b" ") {
+    if !put_hex_then(planes.y, 16, b" ") {
         return false;
     }
-    if !put_fingerprint(planes.cb, b" ") {
+    if !put_hex_then(planes.cb, 16, b" ") {
         return false;
     }
-    put_fingerprint(planes.cr, b"\n")
+    put_hex_then(planes.cr, 16, b"\n")
 }
 
 // A word in place of a line. The answer is not to go on.
