@@ -1,7 +1,8 @@
 /* Calls the functions of the header as a C program does. Every buffer lies between guard words; guards and inputs must
  * stay as they were, and on a refusal the junk in the outputs too. The expected samples are document 01's figures: of
  * S1, a step from 100 to 104 at QP 37 and bS 2 becomes 100 101 101 102 103 103 104 104; K1 without a slice and the
- * farthest moves are worked out by hand. The refusals are the small inputs of its ledger, and a few more. */
+ * farthest moves are worked out by hand. The refusals are the small inputs of its ledger, and a few more. The checksums
+ * are document 02's figure, worked out by hand or summed here as H.265, Annex D, says. */
 #include <stddef.h>
 #include <stdio.h>
 #include <stdlib.h>
@@ -55,14 +56,14 @@ struct Picture {
     struct Lent lent[BUFFERS];
 };
 
-/* The arguments of every function that takes a picture: its nine settings and seven lists; then output planes. */
+/* The arguments of every function that takes a picture: its nine settings and seven lists; then output planes. One that
+ * takes planes alone has the first five settings and the first three lists. */
 #define LENT16(p, which) lent(&(p)->lent[which]), (p)->lent[which].bytes / 2
 #define LENT8(p, which) lent(&(p)->lent[which]), (p)->lent[which].bytes
-#define SETTINGS(p) \
-    (p)->width, (p)->height, (p)->format, (p)->luma_depth, (p)->chroma_depth, (p)->log2_ctb, \
-    (p)->cb_offset, (p)->cr_offset, (p)->pcm
-#define LISTS(p) \
-    LENT16(p, Y), LENT16(p, CB), LENT16(p, CR), LENT8(p, CELL), LENT8(p, SLICE), LENT16(p, COLUMN), LENT16(p, ROW)
+#define SIZES(p) (p)->width, (p)->height, (p)->format, (p)->luma_depth, (p)->chroma_depth
+#define SETTINGS(p) SIZES(p), (p)->log2_ctb, (p)->cb_offset, (p)->cr_offset, (p)->pcm
+#define PLANES(p) LENT16(p, Y), LENT16(p, CB), LENT16(p, CR)
+#define LISTS(p) PLANES(p), LENT8(p, CELL), LENT8(p, SLICE), LENT16(p, COLUMN), LENT16(p, ROW)
 #define OUTPUTS(p) LENT16(p, OUT_Y), LENT16(p, OUT_CB), LENT16(p, OUT_CR)
 
 static uint16_t *samples(struct Picture *p, int which) { return at(&p->lent[which]); }
@@ -102,13 +103,6 @@ static struct Picture accepted(void) {
     return p;
 }
 
-static uint32_t call(struct Picture *p, uint64_t *place) {
-    for (int i = 0; i < BUFFERS; i++) remember(&p->lent[i]);
-    uint32_t number = tinladle_deblock(SETTINGS(p), LISTS(p), OUTPUTS(p), at(&p->lent[PLACE]));
-    memcpy(place, at(&p->lent[PLACE]), sizeof *place);
-    return number;
-}
-
 static int failures = 0;
 
 static void expect(int holds, const char *name, const char *what) {
@@ -117,15 +111,26 @@ static void expect(int holds, const char *name, const char *what) {
     printf("%s: DIFFERENCE: %s\n", name, what);
 }
 
-/* Runs one picture and looks at all that no answer may change. What an accepted one left is the caller's to check. */
-static void run(struct Picture *p, const char *name, uint32_t number, uint64_t place) {
+static void remember_all(struct Picture *p) {
+    for (int i = 0; i < BUFFERS; i++) remember(&p->lent[i]);
+}
+
+/* Looks at an answer and its place, and at all that no answer may change. */
+static void expect_answer(struct Picture *p, const char *name, uint32_t answer, uint32_t number, uint64_t place) {
     uint64_t stored;
-    uint32_t answer = call(p, &stored);
+    memcpy(&stored, at(&p->lent[PLACE]), sizeof stored);
     printf("%s: number %u, place %llu\n", name, (unsigned)answer, (unsigned long long)stored);
     expect(answer == number, name, "the number");
     expect(stored == place, name, "the place");
     for (int i = 0; i < BUFFERS; i++) expect(guarded(&p->lent[i]), name, "a guard was written");
     for (int i = 0; i < INPUTS; i++) expect(unchanged(&p->lent[i]), name, "an input was written");
+}
+
+/* Runs the stage on a picture. What it left of an accepted one is the caller's to check. */
+static void run(struct Picture *p, const char *name, uint32_t number, uint64_t place) {
+    remember_all(p);
+    uint32_t answer = tinladle_deblock(SETTINGS(p), LISTS(p), OUTPUTS(p), at(&p->lent[PLACE]));
+    expect_answer(p, name, answer, number, place);
     if (answer != 0)
         for (int i = OUT_Y; i <= OUT_CR; i++) expect(unchanged(&p->lent[i]), name, "a refusal wrote an output plane");
 }
@@ -503,6 +508,188 @@ static void converted_picture(void) {
     done(&p);
 }
 
+/* The checksum of a plane, by the loop of H.265, Annex D. */
+static uint32_t plane_sum(const uint16_t *plane, uint32_t width, uint32_t height, uint32_t depth) {
+    uint32_t sum = 0;
+    for (uint32_t y = 0; y < height; y++)
+        for (uint32_t x = 0; x < width; x++) {
+            uint32_t mask = (x & 0xFF) ^ (y & 0xFF) ^ (x >> 8) ^ (y >> 8), sample = plane[y * width + x];
+            sum += (sample & 0xFF) ^ mask;
+            if (depth > 8) sum += (sample >> 8) ^ mask;
+        }
+    return sum;
+}
+
+/* By what luma's columns and rows are divided in chroma, in formats 1 to 3. */
+static const uint32_t across[4] = { 0, 2, 2, 1 }, down[4] = { 0, 2, 1, 1 };
+
+static void sums_of(struct Picture *p, uint32_t sums[3]) {
+    sums[0] = plane_sum(samples(p, Y), p->width, p->height, p->luma_depth);
+    for (int i = CB; p->format != 0 && i <= CR; i++)
+        sums[i] = plane_sum(samples(p, i), p->width / across[p->format], p->height / down[p->format], p->chroma_depth);
+}
+
+/* Calls the checksum on a picture's planes, with each sum between guards. `wanted` are the sums; in format 0 that of
+ * luma alone is to be stored, on a refusal none, and what is not stored keeps its junk. */
+static void sum(struct Picture *p, const char *what, uint32_t number, uint64_t place, const uint32_t wanted[3]) {
+    char name[100];
+    snprintf(name, sizeof name, "checksum, %s", what);
+    struct Lent sums[3];
+    for (int i = 0; i < 3; i++) sums[i] = lend(sizeof *wanted, OUT_JUNK), remember(&sums[i]);
+    remember_all(p);
+    uint32_t answer = tinladle_checksum(
+        SIZES(p), PLANES(p), at(&sums[0]), at(&sums[1]), at(&sums[2]), at(&p->lent[PLACE]));
+    expect_answer(p, name, answer, number, place);
+    for (int i = 0; i < 3; i++) {
+        bool is_stored = number == 0 && (i == 0 || p->format != 0);
+        if (is_stored) expect(memcmp(at(&sums[i]), &wanted[i], sizeof *wanted) == 0, name, "a sum");
+        else expect(unchanged(&sums[i]), name, "a sum was stored");
+        expect(guarded(&sums[i]), name, "a guard of a sum was written");
+        give_back(&sums[i]);
+    }
+}
+
+/* Sizes, format and depths, and the sums of zeros where they are worked out by hand: the masks of 8 by 8 samples are 0
+ * to 7 in each row, of 4 by 4 samples 0 to 3, of 4 by 8 samples 0 to 3 in four rows and 4 to 7 in four, of each 256
+ * samples in a row of the last one 0 to 255. Above depth 8 each joins twice. The first is document 02's figure; the
+ * last is 0x1fe000000, kept modulo 2^32. */
+static const struct Summed {
+    const char *name;
+    uint32_t width, height, format, luma_depth, chroma_depth, by_hand[3];
+} summed[] = {
+    { "8 by 8, 4:2:0", 8, 8, 1, 8, 8, { 0xe0, 0x18, 0x18 } },
+    { "8 by 8, no chroma", 8, 8, 0, 8, 8, { 0xe0 } },
+    { "8 by 8, 4:2:2", 8, 8, 2, 8, 8, { 0xe0, 0x70, 0x70 } },
+    { "8 by 8, 4:4:4", 8, 8, 3, 8, 8, { 0xe0, 0xe0, 0xe0 } },
+    { "depths 9 and 8", 8, 8, 1, 9, 8, { 0x1c0, 0x18, 0x18 } },
+    { "depths 8 and 10", 8, 8, 1, 8, 10, { 0xe0, 0x30, 0x30 } },
+    { "depths 16 and 16", 8, 8, 3, 16, 16, { 0x1c0, 0x1c0, 0x1c0 } },
+    { "depths 8 and 16, no chroma", 8, 8, 0, 8, 16, { 0xe0 } },
+    { "depths 16 and 8, no chroma", 8, 8, 0, 16, 8, { 0x1c0 } },
+    { "24 by 40", 24, 40, 2, 16, 9, { 0 } },
+    { "520 by 8", 520, 8, 3, 9, 8, { 0 } },
+    { "8 by 520", 8, 520, 1, 8, 8, { 0 } },
+    { "4104 by 8", 4104, 8, 2, 8, 12, { 0 } },
+    { "8 by 4104", 8, 4104, 3, 12, 8, { 0 } },
+    { "8192 by 16", 8192, 16, 1, 10, 10, { 0 } },
+    { "8192 by 4096", 8192, 4096, 0, 16, 8, { 0xfe000000 } },
+};
+
+/* Planes of these sizes. */
+static struct Picture planes(const struct Summed *t) {
+    struct Picture p = accepted();
+    size_t luma = (size_t)t->width * t->height;
+    size_t chroma = t->format == 0 ? 0 : luma / (across[t->format] * down[t->format]);
+    p.width = t->width, p.height = t->height, p.format = t->format;
+    p.luma_depth = t->luma_depth, p.chroma_depth = t->chroma_depth;
+    resize(&p, Y, 2 * luma, 0), resize(&p, CB, 2 * chroma, 0), resize(&p, CR, 2 * chroma, 0);
+    return p;
+}
+
+enum { ZERO, MIXED, LARGEST, FILLS };
+static const char *fills[FILLS] = { "zeros", "of every bit", "at their largest" };
+
+static void fill(struct Picture *p, int how) {
+    for (int i = Y; i <= CR; i++) {
+        uint32_t most = (1u << (i == Y ? p->luma_depth : p->chroma_depth)) - 1;
+        for (size_t k = 0; k < p->lent[i].bytes / 2; k++) {
+            size_t mixed = (k + 7 * i) * 40503 & most;
+            samples(p, i)[k] = (uint16_t)(how == ZERO ? 0 : how == MIXED ? mixed : most);
+        }
+    }
+}
+
+static void sum_cases(void) {
+    for (size_t i = 0; i < sizeof summed / sizeof *summed; i++) {
+        const struct Summed *t = &summed[i];
+        struct Picture p = planes(t);
+        for (int how = ZERO; how < FILLS; how++) {
+            char name[80];
+            snprintf(name, sizeof name, "%s, %s", t->name, fills[how]);
+            uint32_t sums[3] = { 0 };
+            fill(&p, how);
+            sums_of(&p, sums);
+            bool is_known = how == ZERO && t->by_hand[0] != 0;
+            if (is_known) expect(memcmp(sums, t->by_hand, sizeof sums) == 0, name, "by hand");
+            sum(&p, name, 0, 0, sums);
+        }
+        done(&p);
+    }
+}
+
+static void refused_sum(struct Picture *p, const char *name, uint32_t number, uint64_t place) {
+    sum(p, name, number, place, NULL);
+    done(p);
+}
+
+static void refused_sum_settings(void) {
+    for (size_t i = 0; i < sizeof bad_settings / sizeof *bad_settings; i++) {
+        const struct Setting *t = &bad_settings[i];
+        if (t->number > 3) continue; /* the checksum takes no such setting */
+        struct Picture p = accepted();
+        memcpy((char *)&p + t->offset, &t->value, sizeof t->value);
+        refused_sum(&p, t->name, t->number, 0);
+    }
+    struct Picture p = planes(&summed[1]);
+    p.chroma_depth = 17;
+    refused_sum(&p, "3: chroma depth 17, no chroma", 3, 0);
+}
+
+static void refused_sum_lengths(void) {
+    static const char *names[3][2] = { { "6: y short", "6: y long" }, { "6: cb short", "6: cb long" },
+        { "6: cr short", "6: cr long" } };
+    for (int i = Y; i <= CR; i++)
+        for (int is_long = 0; is_long < 2; is_long++) {
+            struct Picture p = accepted();
+            resize(&p, i, p.lent[i].bytes + (is_long ? 2 : -2), 0);
+            refused_sum(&p, names[i][is_long], 6, 0);
+        }
+    /* All three null. */
+    struct Picture p = accepted();
+    resize(&p, Y, 0, 0), resize(&p, CB, 0, 0), resize(&p, CR, 0, 0);
+    refused_sum(&p, "6: no sample", 6, 0);
+    for (int i = CB; i <= CR; i++) {
+        p = planes(&summed[1]);
+        resize(&p, i, 2, 0);
+        refused_sum(&p, i == CB ? "6: a Cb sample, no chroma" : "6: a Cr sample, no chroma", 6, 0);
+    }
+}
+
+static void refused_sum_samples(void) {
+    struct Picture p = accepted();
+    samples(&p, Y)[5] = 256;
+    refused_sum(&p, "10: Y sample 5 is 256", 10, 5);
+    p = accepted();
+    p.luma_depth = 9;
+    samples(&p, Y)[5] = 511, samples(&p, CB)[3] = 256, samples(&p, CR)[0] = 256;
+    refused_sum(&p, "10: depths 9 and 8, Cb sample 3 is 256", 10, LUMA + 3);
+    p = accepted();
+    p.chroma_depth = 10;
+    samples(&p, CB)[3] = 1023, samples(&p, CR)[CHROMA - 1] = 1024;
+    refused_sum(&p, "10: depths 8 and 10, the last Cr sample is 1024", 10, LUMA + 2 * CHROMA - 1);
+}
+
+/* Changes planes so that they are refused with this number. */
+static void spoil(struct Picture *p, uint32_t number) {
+    if (number == 1) p->width = 12;
+    if (number == 2) p->format = 4;
+    if (number == 3) p->luma_depth = 17;
+    if (number == 6) resize(p, CR, p->lent[CR].bytes - 2, 0);
+    if (number == 10) samples(p, Y)[9] = 256;
+}
+
+static void refused_sums_in_order(void) {
+    static const uint32_t numbers[5] = { 1, 2, 3, 6, 10 };
+    for (int i = 0; i < 5; i++)
+        for (int j = i + 1; j < 5; j++) {
+            struct Picture p = accepted();
+            spoil(&p, numbers[i]), spoil(&p, numbers[j]);
+            char name[40];
+            snprintf(name, sizeof name, "%u before %u", (unsigned)numbers[i], (unsigned)numbers[j]);
+            refused_sum(&p, name, numbers[i], 0);
+        }
+}
+
 int main(void) {
     luma_cases();
     chroma_cases();
@@ -519,6 +706,11 @@ int main(void) {
     converted_records();
     converted_lengths();
     converted_picture();
+    sum_cases();
+    refused_sum_settings();
+    refused_sum_lengths();
+    refused_sum_samples();
+    refused_sums_in_order();
     if (failures) return printf("%d differences\n", failures), 1;
     printf("ok\n");
     return 0;

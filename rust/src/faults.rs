@@ -1,4 +1,4 @@
-//! The words of a refusal after its cause: what of the picture is wrong at the place that the stage named.
+//! The words of a refusal after its cause: what of the picture is wrong at the place that the library named.
 //!
 //! Nothing is decided here. Were nothing wrong to be found, the words would be missing, and number and place would
 //! stand.
@@ -15,11 +15,10 @@ fn those<const N: usize>(faults: [(bool, String); N]) -> String {
     holding.join(", ")
 }
 
-pub(crate) fn detail(cause: Cause, place: u64, picture: &Picture<'_>, out_lengths: [usize; 3]) -> String {
-    let s = &picture.settings;
+/// What is wrong with settings and planes, of the causes that they alone can have.
+pub(crate) fn of_planes(cause: Cause, place: u64, s: &Settings, planes: [&[u16]; 3]) -> String {
     let size = |n: u32| !(8..=Settings::LARGEST).contains(&n) || !n.is_multiple_of(8);
     let depth = |n: u32| !(8..=16).contains(&n);
-    let offset = |n: i32| !(-12..=12).contains(&n);
     match cause {
         Cause::Size => {
             those([(size(s.width), format!("width {}", s.width)), (size(s.height), format!("height {}", s.height))])
@@ -29,6 +28,23 @@ pub(crate) fn detail(cause: Cause, place: u64, picture: &Picture<'_>, out_length
             (depth(s.luma_depth), format!("luma depth {}", s.luma_depth)),
             (depth(s.chroma_depth), format!("chroma depth {}", s.chroma_depth)),
         ]),
+        Cause::Length => Plane::ALL
+            .into_iter()
+            .find_map(|plane| plane_length(s, plane, "", planes[plane as usize].len()))
+            .unwrap_or_default(),
+        Cause::Sample => sample(s, planes, place),
+        _ => String::new(),
+    }
+}
+
+/// What is wrong with a whole picture.
+pub(crate) fn detail(cause: Cause, place: u64, picture: &Picture<'_>, out_lengths: [usize; 3]) -> String {
+    let s = &picture.settings;
+    let offset = |n: i32| !(-12..=12).contains(&n);
+    match cause {
+        Cause::Size | Cause::ChromaFormat | Cause::Depth | Cause::Sample => {
+            of_planes(cause, place, s, picture.samples())
+        }
         Cause::CtbSize => s.log2_ctb.to_string(),
         Cause::ChromaOffset => those([
             (offset(s.cb_qp_offset), format!("Cb offset {}", s.cb_qp_offset)),
@@ -38,18 +54,23 @@ pub(crate) fn detail(cause: Cause, place: u64, picture: &Picture<'_>, out_length
         Cause::Slice => slice(picture, place),
         Cause::TileStart => tile_start(picture, place),
         Cause::Cell => cell(picture, place),
-        Cause::Sample => sample(picture, place),
     }
+}
+
+/// A plane that is not of its length.
+fn plane_length(s: &Settings, plane: Plane, kind: &str, given: usize) -> Option<String> {
+    let wanted = s.plane_len(plane);
+    let has = || format!("{kind}{plane} has {}, not {wanted}", counted(given as u64, "sample", "samples"));
+    (given as u64 != wanted).then(has)
 }
 
 /// The first list that is not of its length.
 fn length(picture: &Picture<'_>, out_lengths: [usize; 3]) -> String {
     let s = &picture.settings;
-    for (i, plane) in Plane::ALL.into_iter().enumerate() {
-        let wanted = s.plane_len(plane);
-        for (kind, given) in [("", picture.plane(plane).len()), ("output ", out_lengths[i])] {
-            if given as u64 != wanted {
-                return format!("{kind}{plane} has {}, not {wanted}", counted(given as u64, "sample", "samples"));
+    for (plane, out_length) in Plane::ALL.into_iter().zip(out_lengths) {
+        for (kind, given) in [("", picture.plane(plane).len()), ("output ", out_length)] {
+            if let Some(words) = plane_length(s, plane, kind, given) {
+                return words;
             }
         }
     }
@@ -140,13 +161,12 @@ fn cell(picture: &Picture<'_>, place: u64) -> String {
     ])
 }
 
-fn sample(picture: &Picture<'_>, place: u64) -> String {
+fn sample(s: &Settings, planes: [&[u16]; 3], place: u64) -> String {
     let mut left = place;
-    for plane in Plane::ALL {
-        let samples = picture.plane(plane);
+    for (plane, samples) in Plane::ALL.into_iter().zip(planes) {
         if left < samples.len() as u64 {
             // Refusal 3 comes first, so the depth is in range here.
-            let largest = (1u64 << picture.settings.depth(plane).min(16)) - 1;
+            let largest = (1u64 << s.depth(plane).min(16)) - 1;
             return format!("{plane} sample {left} is {}, the largest is {largest}", samples[left as usize]);
         }
         left -= samples.len() as u64;

@@ -1,10 +1,11 @@
 //! The calls into the proved library, made safe by their signatures. The crate's unsafe code, without the tool's, is
-//! the two calls here, one of them in the macro, and, in library.rs, the declarations of what they call.
+//! the three calls here, one of them in the macro, and, in library.rs, the declarations of what they call.
 
 #![allow(unsafe_code)]
 
 use crate::library;
 use crate::picture::Picture;
+use crate::settings::Settings;
 
 /// Safe functions over C functions that take a picture. Its settings and lists stand here once; a row has what is a
 /// function's own, in the order of the C arguments: the lists that it reads, the lists that it writes, the values
@@ -72,9 +73,40 @@ pub(crate) fn tinladle_convert_cells(cells: &[u8], out: &mut [u8]) -> (u32, u64)
     (number, place)
 }
 
+/// The checksums of three planes: on 0 `sums` holds them, those of Cb and Cr only where the format has chroma; else
+/// what it held.
+pub(crate) fn tinladle_checksum(s: &Settings, planes: [&[u16]; 3], sums: &mut [u32; 3]) -> (u32, u64) {
+    let [y, cb, cr] = planes;
+    let [sum_y, sum_cb, sum_cr] = sums;
+    let mut place = 0;
+    // SAFETY: as above. Each plane's pointer is its slice's own, with its length. The sums are three elements of one
+    // array that is borrowed as `&mut`: they overlap neither one another nor `place`, a local, nor any plane.
+    let number = unsafe {
+        library::tinladle_checksum(
+            s.width,
+            s.height,
+            s.chroma_format,
+            s.luma_depth,
+            s.chroma_depth,
+            y.as_ptr(),
+            y.len(),
+            cb.as_ptr(),
+            cb.len(),
+            cr.as_ptr(),
+            cr.len(),
+            sum_y,
+            sum_cb,
+            sum_cr,
+            &mut place,
+        )
+    };
+    (number, place)
+}
+
 #[cfg(test)]
 mod tests {
     use super::*;
+    use crate::settings::ChromaFormat;
 
     #[test]
     fn lists_of_two_lengths_are_not_converted() {
@@ -87,5 +119,29 @@ mod tests {
         let mut out = [0xA5; 8];
         assert_eq!(tinladle_convert_cells(&record, &mut out), (0, 0));
         assert_eq!(out, [101, 0, 0, 0, 0, 0, 0, 0]);
+    }
+
+    const JUNK: u32 = 0xA5A5_A5A5;
+
+    /// The answer, and what is then in the place of junk.
+    fn over_junk(settings: Settings, planes: [&[u16]; 3]) -> ((u32, u64), [u32; 3]) {
+        let mut sums = [JUNK; 3];
+        (tinladle_checksum(&settings, planes, &mut sums), sums)
+    }
+
+    #[test]
+    fn only_the_sums_that_there_are_get_stored() {
+        let colour = Settings::new(8, 8, ChromaFormat::Yuv420);
+        let grey = Settings::new(8, 8, ChromaFormat::Monochrome);
+        let (y, c, none) = (&[0; 64][..], &[0; 16][..], &[][..]);
+        assert_eq!(over_junk(colour, [y, c, c]), ((0, 0), [0xE0, 0x18, 0x18]));
+        assert_eq!(over_junk(grey, [y, none, none]), ((0, 0), [0xE0, JUNK, JUNK]));
+        let refused = |number, place| ((number, place), [JUNK; 3]);
+        assert_eq!(over_junk(Settings { width: 12, ..colour }, [y, c, c]), refused(1, 0));
+        assert_eq!(over_junk(Settings { chroma_format: 4, ..colour }, [y, c, c]), refused(2, 0));
+        assert_eq!(over_junk(Settings { chroma_depth: 17, ..grey }, [y, none, none]), refused(3, 0));
+        assert_eq!(over_junk(colour, [y, c, y]), refused(6, 0));
+        assert_eq!(over_junk(grey, [&[256; 64], none, none]), refused(10, 0));
+        assert_eq!(over_junk(colour, [y, c, &[256; 16]]), refused(10, 80));
     }
 }

@@ -2,7 +2,8 @@
 //!
 //! [`deblock`] is a safe call of the proved C function `tinladle_deblock`: it answers any input with a filtered
 //! picture or with one of ten [refusals](Cause), and filters each tile as if it were a picture alone. No sample leaves
-//! its range or moves farther than [`Settings::move_bound`]; how far one did move, [`moves`] finds.
+//! its range or moves farther than [`Settings::move_bound`]; how far one did move, [`moves`] finds. [`checksum`] gives
+//! the picture checksums of Annex D, by which a decoded picture is held to its stream.
 //!
 //! ```
 //! use tinladle::{Bs, Cell, Cells, ChromaFormat, Picture, PlanesBuf, Settings, Slice, deblock};
@@ -75,6 +76,7 @@ pub mod cut;
 pub mod image;
 pub mod moves;
 
+mod checksums;
 mod counted;
 mod faults;
 mod ffi;
@@ -85,6 +87,7 @@ mod records;
 mod refusal;
 mod settings;
 
+pub use checksums::Checksums;
 pub use memory::OutOfMemory;
 pub use picture::{Picture, PictureBuf, Planes, PlanesBuf};
 pub use records::{Bs, Cell, Cells, OutOfRange, Slice, Slices};
@@ -142,4 +145,56 @@ pub fn convert_cells(cells: &[u8]) -> Result<Vec<u8>, OutOfMemory> {
     let answer = ffi::tinladle_convert_cells(cells, &mut converted);
     assert_eq!(answer, (0, 0), "the library converts into a list of the same length: its contract");
     Ok(converted)
+}
+
+/// The picture checksums of H.265, Annex D (decoded picture hash, `hash_type` 2), of three planes, modulo 2^32. A call
+/// of the proved C function `tinladle_checksum`.
+///
+/// The planes are taken as they are given. An encoder writes the sums of its finished planes into its stream, and what
+/// [`deblock`] leaves has the same ones where no filter comes after it (SAO off). For each sample the mask is x xor y
+/// xor (x >> 8) xor (y >> 8) on the low bytes of x and y, its column and row in its own plane. The sample's low byte
+/// xor the mask joins the plane's sum; where the plane's own depth is above 8, its high part xor the mask joins too.
+///
+/// Of the settings width, height, chroma format and the two depths play a part, and no other. The causes of a refusal
+/// are [`Cause::Size`], [`Cause::ChromaFormat`], [`Cause::Depth`], [`Cause::Length`] of a plane and [`Cause::Sample`],
+/// looked for in this order. Both depths are checked in every format; a monochrome picture has empty chroma planes.
+///
+/// ```
+/// use tinladle::{Cell, Cells, Checksums, ChromaFormat, Picture, PlanesBuf, Settings, checksum, deblock};
+///
+/// // 8 by 8 zeros at depth 8, 4:2:0, with nothing to filter.
+/// let settings = Settings::new(8, 8, ChromaFormat::Yuv420);
+/// let given = PlanesBuf::filled([64, 16, 16], 0);
+/// let cells = Cells::filled(&settings, Cell::new(37)?);
+/// let picture = Picture {
+///     settings,
+///     y: &given.y,
+///     cb: &given.cb,
+///     cr: &given.cr,
+///     cells: cells.as_bytes(),
+///     slices: &[],
+///     tile_columns: &[0],
+///     tile_rows: &[0],
+/// };
+/// let mut finished = PlanesBuf::filled(given.lengths(), 1);
+/// deblock(&picture, &mut finished.planes())?;
+/// let sums = checksum(&settings, finished.samples())?;
+/// assert_eq!(sums, Checksums::Three { y: 0xe0, cb: 0x18, cr: 0x18 });
+///
+/// // A monochrome picture has one sum. At depth 10 each sample joins it twice.
+/// let grey = Settings { luma_depth: 10, ..Settings::new(8, 8, ChromaFormat::Monochrome) };
+/// assert_eq!(checksum(&grey, [&given.y, &[], &[]])?, Checksums::One(0x1c0));
+///
+/// let refusal = checksum(&grey, given.samples()).unwrap_err();
+/// assert_eq!((refusal.number(), refusal.place()), (6, 0));
+/// assert_eq!(refusal.to_string(), "refused 6: a plane or list is not of its length: Cb has 16 samples, not 0");
+/// # Ok::<(), Box<dyn std::error::Error>>(())
+/// ```
+pub fn checksum(settings: &Settings, planes: [&[u16]; 3]) -> Result<Checksums, Refusal> {
+    let mut sums = [0; 3];
+    let answer = ffi::tinladle_checksum(settings, planes, &mut sums);
+    Refusal::or_accepted(answer, |cause, place| faults::of_planes(cause, place, settings, planes))?;
+    let [y, cb, cr] = sums;
+    let monochrome = settings.chroma_format == ChromaFormat::Monochrome.number();
+    Ok(if monochrome { Checksums::One(y) } else { Checksums::Three { y, cb, cr } })
 }

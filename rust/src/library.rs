@@ -37,13 +37,31 @@ of_a_picture! {
     );
 }
 
-// What takes no picture.
+// What takes no whole picture.
 unsafe extern "C" {
     pub fn tinladle_convert_cells(
         cells: *const u8,
         cells_len: usize,
         out_cells: *mut u8,
         out_cells_len: usize,
+        place: *mut u64,
+    ) -> u32;
+
+    pub fn tinladle_checksum(
+        width: u32,
+        height: u32,
+        chroma_format: u32,
+        luma_depth: u32,
+        chroma_depth: u32,
+        y: *const u16,
+        y_len: usize,
+        cb: *const u16,
+        cb_len: usize,
+        cr: *const u16,
+        cr_len: usize,
+        sum_y: *mut u32,
+        sum_cb: *mut u32,
+        sum_cr: *mut u32,
         place: *mut u64,
     ) -> u32;
 }

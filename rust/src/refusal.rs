@@ -8,6 +8,7 @@ use std::fmt;
 macro_rules! causes {
     ($($(#[$note:meta])* $name:ident = $number:literal,)*) => {
         /// The causes of a refusal, in the order in which the stage looks for them. Each has its own number.
+        /// [`checksum`](crate::checksum) looks for 1, 2, 3, 6 and 10 alone, in the same order.
         #[derive(Clone, Copy, Debug, PartialEq, Eq, Hash, PartialOrd, Ord)]
         #[repr(u32)]
         #[non_exhaustive]
@@ -41,7 +42,7 @@ causes! {
     /// 9: a cell out of range, with a bS above 0 that lacks its edge flag, or with a slice not in the list; the place
     /// is the first such cell.
     Cell = 9,
-    /// 10: an original sample above its largest; the place is the first such, counted through Y, Cb, Cr.
+    /// 10: a given sample above its largest; the place is the first such, counted through Y, Cb, Cr.
     Sample = 10,
 }
 
@@ -57,9 +58,9 @@ impl Cause {
     }
 }
 
-/// Why the stage did not filter a picture. No output sample was written.
+/// Why a picture was not filtered, or why its planes have no checksums. No output sample was written.
 ///
-/// Number and place are the stage's own answer. The detail is read off the picture at that place, for people.
+/// Number and place are the library's own answer. The detail is read off the picture at that place, for people.
 #[derive(Clone, Debug, PartialEq, Eq)]
 pub struct Refusal {
     cause: Cause,
@@ -78,7 +79,8 @@ impl Refusal {
         Err(Refusal { cause, place, detail: words(cause, place) })
     }
 
-    /// The cause's number; of [`deblock`](crate::deblock) 1 to 10.
+    /// The cause's number; of [`deblock`](crate::deblock) 1 to 10, of [`checksum`](crate::checksum) one of 1, 2, 3, 6
+    /// and 10.
     pub fn number(&self) -> u32 {
         self.cause.number()
     }

@@ -5,7 +5,7 @@ mod common;
 use std::fs;
 
 use common::tool::{folder, load, refused, s1, s1_filtered, store, tinladle};
-use common::{edges, flat, samples};
+use common::{FORMATS, edges, flat, samples};
 use tinladle::{Cell, ChromaFormat, PictureBuf, Settings, Slice};
 
 /// Five samples on each of the 16 rows.
@@ -100,12 +100,13 @@ fn bad_files_get_one_line() {
         ("missing.pic", "cannot be read: No such file or directory (os error 2)"),
     ];
     for (file, why) in cases {
-        let verbs: [&[&str]; 5] = [
+        let verbs: [&[&str]; 6] = [
             &["check", file],
             &["tiles", file],
             &["deblock", file, "out"],
             &["picture", file, "out.ppm"],
             &["convert", file, "out"],
+            &["checksum", file],
         ];
         for words in verbs {
             let ran = tinladle(&at, words);
@@ -182,11 +183,7 @@ fn tiles_says_0_for_each() {
 #[test]
 fn picture_has_three_parts() {
     let at = folder("picture");
-    for (number, format) in
-        [ChromaFormat::Monochrome, ChromaFormat::Yuv420, ChromaFormat::Yuv422, ChromaFormat::Yuv444]
-            .into_iter()
-            .enumerate()
-    {
+    for (number, format) in FORMATS.into_iter().enumerate() {
         let mut picture = flat(Settings::new(16, 8, format), edges(37));
         picture.planes.y = samples(16, 8, |x, _| if x < 8 { 100 } else { 104 });
         picture.planes.cb.fill(128);

@@ -3,13 +3,10 @@
 
 mod common;
 
-use common::{flat, run, samples};
+use common::{FORMATS, flat, run, samples};
 use tinladle::{Bs, Cell, Cells, ChromaFormat, PictureBuf, Plane, Settings};
 
 const SIDE: u32 = 48;
-const FORMATS: [ChromaFormat; 4] =
-    [ChromaFormat::Monochrome, ChromaFormat::Yuv420, ChromaFormat::Yuv422, ChromaFormat::Yuv444];
-
 /// Before and after a step in luma, and what S1 of document 01 makes of it; K1's in chroma.
 const LUMA: (u16, u16, &[u16]) = (100, 104, &[100, 101, 101, 102, 103, 103, 104, 104]);
 const CHROMA: (u16, u16, &[u16]) = (50, 60, &[54, 56]);

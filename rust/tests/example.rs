@@ -9,11 +9,11 @@ mod common;
 use std::fs;
 use std::path::{Path, PathBuf};
 
-use common::run;
 use common::tool::{folder, tinladle};
-use tinladle::PictureBuf;
+use common::{annex_d, run};
 use tinladle::container::StoredPicture;
 use tinladle::cut::{apart, differing, tiles};
+use tinladle::{PictureBuf, Plane};
 
 fn shipped() -> PictureBuf {
     let path = Path::new(env!("CARGO_MANIFEST_DIR")).join("../examples/example.pic");
@@ -124,14 +124,32 @@ fn the_counts_in_the_root_readme_are_those_of_the_planes() {
     assert_eq!(numbers_in(README, "whole picture"), whole);
 }
 
+/// The example's file before filtering and after.
+const FILES: [&str; 2] = ["examples/example.pic", "target/example/filtered.pic"];
+
 #[test]
-fn the_crates_readme_shows_what_diff_says() {
-    let at = with_the_example("example_diff");
-    let (before, after) = ("examples/example.pic", "target/example/filtered.pic");
+fn the_crates_readme_shows_what_diff_and_checksum_say() {
+    let at = with_the_example("example_files");
+    let [before, after] = FILES;
     assert_eq!(tinladle(&at, &["deblock", before, after]).status, 0);
-    let ran = tinladle(&at, &["diff", before, after]);
-    assert_eq!((ran.status, ran.err.as_str()), (1, ""));
-    assert!(OF_THE_CRATE.contains(&format!("```text\n{}```\n", ran.out)), "not in README.md as it is:\n{}", ran.out);
+    for (verb, status) in [("diff", 1), ("checksum", 0)] {
+        let ran = tinladle(&at, &[verb, before, after]);
+        assert_eq!((ran.status, ran.err.as_str()), (status, ""), "{verb}");
+        let shown = OF_THE_CRATE.contains(&format!("```text\n{}```\n", ran.out));
+        assert!(shown, "not in README.md as it is:\n{}", ran.out);
+    }
+}
+
+#[test]
+fn the_checksums_in_the_crates_readme_are_those_of_the_planes() {
+    let picture = shipped();
+    for (file, planes) in FILES.into_iter().zip([&picture.planes, &run(&picture).unwrap()]) {
+        let sums = annex_d(&picture.settings, planes);
+        for plane in Plane::ALL {
+            let line = format!("{:08x}  {plane:<2}  {file}\n", sums.plane(plane).unwrap());
+            assert!(OF_THE_CRATE.contains(&line), "{line}");
+        }
+    }
 }
 
 #[test]

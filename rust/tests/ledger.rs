@@ -2,7 +2,7 @@
 
 mod common;
 
-use common::{colour, flat, run, run_into, small};
+use common::{colour, flat, run, run_into, small, with};
 use tinladle::{Cause, Cell, ChromaFormat, PictureBuf, Settings, Slice, Slices};
 
 /// The picture is refused with this number, place and sentence, and the output planes keep their junk.
@@ -11,12 +11,6 @@ fn refused(picture: &PictureBuf, number: u32, place: u64, sentence: &str) {
     assert_eq!((refusal.number(), refusal.place()), (number, place), "{sentence}");
     assert_eq!(refusal.cause().number(), number);
     assert_eq!(refusal.to_string(), sentence);
-}
-
-fn with(picture: PictureBuf, change: impl FnOnce(&mut PictureBuf)) -> PictureBuf {
-    let mut changed = picture;
-    change(&mut changed);
-    changed
 }
 
 /// 64 by 8 with CTBs of 16: four of them across, one down.

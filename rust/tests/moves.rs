@@ -6,12 +6,9 @@ mod common;
 use std::collections::BTreeSet;
 
 use common::stored::records;
-use common::{edges, flat, run, run_into, samples};
+use common::{FORMATS, edges, flat, run, run_into, samples};
 use tinladle::moves::{Farthest, farthest};
 use tinladle::{ChromaFormat, PictureBuf, Plane, PlanesBuf, Settings, Slice};
-
-const FORMATS: [ChromaFormat; 4] =
-    [ChromaFormat::Monochrome, ChromaFormat::Yuv420, ChromaFormat::Yuv422, ChromaFormat::Yuv444];
 
 /// Depth, and how far luma and chroma move at the most. The last six depths are no picture's.
 const BOUNDS: [(u32, u32, u32); 15] = [

@@ -4,7 +4,7 @@
 
 mod common;
 
-use common::stored::{expected, fingerprints, records};
+use common::stored::{expected, fingerprints, printed};
 use common::{JUNK, run_into};
 use tinladle::PlanesBuf;
 use tinladle::container::StoredPicture;
@@ -20,21 +20,14 @@ fn line(number: usize, stored: &StoredPicture) -> String {
     format!("{number} {} {} {}\n", answer.0, answer.1, fingerprints(planes.samples()))
 }
 
-/// What the Rattle program of that name prints, by way of this crate.
-fn text(name: &str) -> String {
-    let (pictures, short) = records(name);
-    let lines: String = pictures.iter().enumerate().map(|(i, picture)| line(i + 1, picture)).collect();
-    lines + if short { "short\n" } else { "" }
-}
-
 #[test]
 fn real_pictures() {
-    assert_eq!(text("real_pictures"), expected("real_pictures"));
+    assert_eq!(printed("real_pictures", line), expected("real_pictures"));
 }
 
 #[test]
 fn picture_cases() {
-    let (given, wanted) = (text("picture_cases"), expected("picture_cases"));
+    let (given, wanted) = (printed("picture_cases", line), expected("picture_cases"));
     for (given, wanted) in given.lines().zip(wanted.lines()) {
         assert_eq!(given, wanted);
     }

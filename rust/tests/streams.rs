@@ -26,7 +26,7 @@ fn with_streams(at: &Path, streams: &str, words: &[&str]) -> Ran {
     through_shell(at, &format!("exec \"$@\" {streams}"), words)
 }
 
-const VERBS: [&[&str]; 8] = [
+const VERBS: [&[&str]; 9] = [
     &["--help"],
     &["--version"],
     &["check", "a.pic", "a.pic"],
@@ -35,6 +35,7 @@ const VERBS: [&[&str]; 8] = [
     &["deblock", "a.pic", "b.pic"],
     &["picture", "a.pic", "b.ppm"],
     &["convert", "a.pic", "c.pic"],
+    &["checksum", "a.pic"],
 ];
 
 #[test]

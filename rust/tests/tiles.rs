@@ -2,7 +2,7 @@
 
 mod common;
 
-use common::{colour, edges, flat, run, samples};
+use common::{FORMATS, colour, edges, flat, run, samples};
 use tinladle::cut::{CutError, Tile, apart, cut, differing, tiles};
 use tinladle::{Cells, ChromaFormat, PictureBuf, Settings};
 
@@ -55,7 +55,7 @@ fn the_cut_keeps_samples_and_cells() {
 
 #[test]
 fn term_3_is_0_in_every_format() {
-    for format in [ChromaFormat::Monochrome, ChromaFormat::Yuv420, ChromaFormat::Yuv422, ChromaFormat::Yuv444] {
+    for format in FORMATS {
         let picture = tiled(format);
         let finished = run(&picture).unwrap();
         assert_ne!(finished, picture.planes, "{format:?}: the filter moves something");

@@ -38,7 +38,7 @@ fn each_line_of_the_help_is_what_the_verb_takes() {
     let lines: Vec<_> = help.lines().filter_map(line_of_help).collect();
     assert_eq!(
         lines.iter().map(|line| line.0).collect::<Vec<_>>(),
-        ["deblock", "deblock", "check", "diff", "picture", "tiles", "convert", "convert"]
+        ["deblock", "deblock", "check", "diff", "picture", "tiles", "convert", "convert", "checksum"]
     );
     // The forms with --to have an option and its value among the words; the others have files alone.
     for (verb, words) in lines.into_iter().filter(|line| line.1[0] != "--to") {
@@ -85,6 +85,9 @@ const BAD: &[(&[&str], &str)] = &[
     (&["convert", "a", "b", "c"], "convert takes IN OUT or --to DIR IN..., and 3 arguments were given"),
     (&["convert", "--to", "a"], "convert takes IN OUT or --to DIR IN..., and nothing was given"),
     (&["convert", "a", "b", "--jobs", "none"], "--jobs none: not a number from 1 to 256"),
+    (&["checksum"], "checksum takes IN..., and nothing was given"),
+    (&["checksum", "a", "--to", "b"], "checksum takes no --to"),
+    (&["checksums", "a"], "unknown command checksums"),
     (&["deblock", "--to"], "--to needs a folder"),
     (&["deblock", "--to=", "a"], "--to needs a folder"),
     (&["deblock", "--to", "b", "--to", "c", "a"], "--to is given twice"),

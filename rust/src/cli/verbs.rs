@@ -1,7 +1,7 @@
 //! The verbs: a row for each form of each. The help, the check of the arguments and the call come from these rows, so
 //! that a new verb is a row here and a function in commands/.
 
-use super::commands::{check, convert, deblock, diff, picture, tiles};
+use super::commands::{check, checksum, convert, deblock, diff, picture, tiles};
 use super::options::{JOBS, Opt, TO};
 use super::words::Words;
 use crate::counted::counted;
@@ -89,6 +89,16 @@ pub static VERBS: &[Verb] = &[
         takes: &[&JOBS],
         help: "the same for several, each to its own name in DIR",
         run: convert::run,
+    },
+    Verb {
+        name: "checksum",
+        needs: None,
+        arguments: "IN...",
+        takes: &[&JOBS],
+        help: "the checksums of H.265, Annex D, of the planes as they stand:\n\
+               one line a plane, eight hex digits, with several IN followed\n\
+               by plane and file",
+        run: checksum::run,
     },
 ];
 

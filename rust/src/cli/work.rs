@@ -15,8 +15,10 @@ use super::words::Words;
 
 /// Why a piece of work has no result.
 pub enum Failure {
-    /// The stage refused the file's picture: a line for standard output.
+    /// The file's picture was refused: a line for standard output.
     Refused(String),
+    /// The same of a verb whose standard output programs read: a line for standard error.
+    RefusedAside(String),
     /// The file cannot be used: a line for standard error.
     Bad(String),
 }
@@ -33,6 +35,10 @@ fn show(outcome: Outcome) -> u8 {
     match outcome {
         Ok((text, status)) => status.max(print(&text)),
         Err(Failure::Refused(line)) => print(&format!("{line}\n")).max(1),
+        Err(Failure::RefusedAside(line)) => {
+            complain(&line);
+            1
+        }
         Err(Failure::Bad(line)) => {
             complain(&line);
             BAD

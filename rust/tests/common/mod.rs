@@ -6,11 +6,14 @@ pub mod stored;
 pub mod tool;
 
 use tinladle::{
-    Bs, Cell, Cells, ChromaFormat, PictureBuf, Plane, PlanesBuf, Refusal, Settings, Slice, Slices, deblock,
+    Bs, Cell, Cells, Checksums, ChromaFormat, PictureBuf, Plane, PlanesBuf, Refusal, Settings, Slice, Slices, deblock,
 };
 
 /// What the output planes hold before the stage runs.
 pub const JUNK: u16 = 0xABCD;
+
+pub const FORMATS: [ChromaFormat; 4] =
+    [ChromaFormat::Monochrome, ChromaFormat::Yuv420, ChromaFormat::Yuv422, ChromaFormat::Yuv444];
 
 /// A cell of this QP with both edges at bS 2.
 pub fn edges(qp: i32) -> Cell {
@@ -41,9 +44,23 @@ pub fn colour() -> PictureBuf {
     flat(Settings::new(16, 8, ChromaFormat::Yuv420), Cell::new(37).unwrap())
 }
 
+/// A picture, changed.
+pub fn with(picture: PictureBuf, change: impl FnOnce(&mut PictureBuf)) -> PictureBuf {
+    let mut changed = picture;
+    change(&mut changed);
+    changed
+}
+
 /// A list of samples, each by its column and row.
 pub fn samples(width: usize, height: usize, sample: impl Fn(usize, usize) -> u16) -> Vec<u16> {
     (0..width * height).map(|i| sample(i % width, i / width)).collect()
+}
+
+/// 16 by 8, format 0: S1's step of document 01 at column 8, from 100 to 104.
+pub fn step() -> PictureBuf {
+    let mut picture = flat(Settings::new(16, 8, ChromaFormat::Monochrome), edges(37));
+    picture.planes.y = samples(16, 8, |x, _| if x < 8 { 100 } else { 104 });
+    picture
 }
 
 /// The stage on a picture, over junk in output planes of these lengths. The originals must stay, and on a refusal the
@@ -76,4 +93,30 @@ pub fn by_the_rule(cells: &[u8]) -> Vec<u8> {
         }
     }
     wanted
+}
+
+/// The checksum of a plane of this width and depth, straight from H.265, Annex D.
+fn annex_d_of_plane(samples: &[u16], width: usize, depth: u32) -> u32 {
+    let mut sum = 0;
+    for (i, &sample) in samples.iter().enumerate() {
+        let (x, y, sample) = ((i % width) as u64, (i / width) as u64, u64::from(sample));
+        let mask = (x & 0xFF) ^ (y & 0xFF) ^ (x >> 8) ^ (y >> 8);
+        sum = (sum + ((sample & 0xFF) ^ mask)) & 0xFFFF_FFFF;
+        if depth > 8 {
+            sum = (sum + ((sample >> 8) ^ mask)) & 0xFFFF_FFFF;
+        }
+    }
+    sum as u32
+}
+
+/// Those of a picture's planes, by the chroma formats of the standard.
+pub fn annex_d(s: &Settings, planes: &PlanesBuf) -> Checksums {
+    let width = s.width as usize;
+    let y = annex_d_of_plane(&planes.y, width, s.luma_depth);
+    let chroma = |samples, across| annex_d_of_plane(samples, width / across, s.chroma_depth);
+    match s.chroma_format {
+        0 => Checksums::One(y),
+        1 | 2 => Checksums::Three { y, cb: chroma(&planes.cb, 2), cr: chroma(&planes.cr, 2) },
+        _ => Checksums::Three { y, cb: chroma(&planes.cb, 1), cr: chroma(&planes.cr, 1) },
+    }
 }

@@ -38,6 +38,13 @@ pub fn records(name: &str) -> (Vec<StoredPicture>, bool) {
     (pictures, false)
 }
 
+/// What it prints where each picture, numbered from 1, has this line.
+pub fn printed(name: &str, line: impl Fn(usize, &StoredPicture) -> String) -> String {
+    let (pictures, short) = records(name);
+    let lines: String = pictures.iter().enumerate().map(|(i, picture)| line(i + 1, picture)).collect();
+    lines + if short { "short\n" } else { "" }
+}
+
 /// What it is to print.
 pub fn expected(name: &str) -> String {
     String::from_utf8(output(name)).unwrap()

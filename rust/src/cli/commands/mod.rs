@@ -1,6 +1,7 @@
 //! What each verb does: a file for each, and here what several do.
 
 pub mod check;
+pub mod checksum;
 pub mod convert;
 pub mod deblock;
 pub mod diff;
