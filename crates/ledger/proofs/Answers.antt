@@ -7,15 +7,19 @@ use native.Mathlib.Omega.{arith}
 use lib.Dec.{ltb}
 use lib.ListN.{length}
 use Rattle.picture.specs.Causes.{Rule, badCtb, badDepths, badLists, badPlanes, badSize}
-use Rattle.picture.specs.Causes.{cause6, cause9, cellsCause, ledger}
+use Rattle.picture.specs.Causes.{cause1, cause6, cause9, cellsCause, ledger}
 use Rattle.picture.specs.Cell.{cellCount}
 use Rattle.picture.specs.declared.Settings as Code
 use Rattle.picture.specs.Given.{bare, pictureOf, settingsOf}
 use Rattle.picture.specs.Ledger.{Cause, Entry, Verdict, anyOf, entry, firstBad, firstOf, once, placeOf}
 use Rattle.picture.specs.Picture.{Picture, Planes}
-use Rattle.picture.proofs.Ledger.{AllGood, NoneOf, none-out, none-part, once-out, passed, returned, to-fact}
+use Rattle.picture.proofs.Ledger.{AllGood, AllNumbered, Good, NoneOf, good-out, none-out, none-part, once-out}
+use Rattle.picture.proofs.Ledger.{passed, returned, to-fact}
 use Rattle.checks.specs.Lengths.{badLengths}
 use Rattle.list_checks.proofs.Places.{all-good}
+use Rattle.ledger.specs.declared.Verdict as Told
+use Rattle.ledger.specs.declared.Verdict.the-variants.{Accepted}
+use Rattle.ledger.specs.Numbered.{numbered}
 use Rattle.ledger.specs.Parts.{Settled, listsPart, settingsPart}
 
 -- the answer v is left to the entries l
@@ -87,11 +91,24 @@ goes-past-all [] m h left = left
 goes-past-all (d ∷ r) m h left =
     goes-past-all r m (h .1) (record { answer = left .answer ∙ passed (d .cause) (d .number) (r ++ m) (h .0) })
 
+-- ---- the answer of the first ones, by the enum that they are told with
+
+-- acceptance says that none of them applies
+pub told-good : (l : List Entry) → AllNumbered l → {r : Told.Verdict} → numbered r ≡ firstOf l → r ≡ Accepted → AllGood l
+told-good l all e accepted =
+    good-out l all (ap (λ (v : Verdict). v .number) (sym e ∙ ap numbered accepted))
+
+-- so the answer is left to the others
+pub told-past : (l m : List Entry) → AllNumbered l → {r : Told.Verdict} {v : Verdict} → numbered r ≡ firstOf l
+    → r ≡ Accepted → LeftTo v (l ++ m) → LeftTo v m
+told-past l m all e accepted left = goes-past-all l m (told-good l all e accepted) left
+
 -- ---- what causes 1 to 6 leave where they do not apply
 
-pub sizes-fit : (s : Code.Settings) → NoneOf (badSize (s .width) ++ badSize (s .height))
-    → (s .width ≤ 8192) × (s .height ≤ 8192)
-sizes-fit s h = search to-fact depth 1
+pub sizes-fit : (s : Code.Settings) → Good (cause1 (bare s)) → (s .width ≤ 8192) × (s .height ≤ 8192)
+sizes-fit s good =
+    let h = once-out (badSize (s .width) ++ badSize (s .height)) good in
+    search to-fact depth 1
 
 pub depths-fit : (s : Code.Settings) → NoneOf (badDepths (settingsOf s))
     → (s .«luma_depth» ≤ 16) × (s .«chroma_depth» ≤ 16)
@@ -99,7 +116,7 @@ depths-fit s h = search to-fact depth 1
 
 module _ (s : Code.Settings) (good : AllGood (settingsPart (bare s))) where
   pub sizes : (s .width ≤ 8192) × (s .height ≤ 8192)
-  sizes = sizes-fit s (once-out (badSize (s .width) ++ badSize (s .height)) (good .0))
+  sizes = sizes-fit s (good .0)
 
   pub settled : (originals : Planes) (cells slices columns rows : List ℕ) (lent : List Bool) {b : Bool}
       → b ≡ anyOf (badLengths lent (pictureOf s originals cells slices columns rows)) → b ≡ false → Settled s cells

@@ -1,7 +1,8 @@
--- The parts of the ledger that are checked one after another: causes 1 to 5, cause 6, and causes 7 to 10.
+-- The parts of the ledger that are checked one after another: causes 1 to 5, of them first 1 and 2, cause 6, and causes
+-- 7 to 10.
 use Prim.Native.Nat.{ℕ, _*_, _≤_}
 use mathlib.Core.Path.{_≡_}
-use mathlib.Core.List.{List, [], _∷_}
+use mathlib.Core.List.{List, [], _∷_, _++_}
 use lib.ListN.{length}
 use Rattle.picture.specs.Causes.{Rule, cause1, cause2, cause3, cause4, cause5, cause7, cause8, cause9, cause10}
 use Rattle.picture.specs.Cell.{cellCount}
@@ -10,14 +11,16 @@ use Rattle.picture.specs.Given.{bare}
 use Rattle.picture.specs.Ledger.{Entry, entry}
 use Rattle.picture.specs.Picture.{Picture}
 
+abbrev pub formatPart : Picture → List Entry
+formatPart p = entry 1 (cause1 p) ∷ entry 2 (cause2 (p .settings)) ∷ []
+
 abbrev pub settingsPart : Picture → List Entry
 settingsPart p =
-    entry 1 (cause1 p)
-    ∷ entry 2 (cause2 (p .settings))
-    ∷ entry 3 (cause3 (p .settings))
+    formatPart p
+    ++ (entry 3 (cause3 (p .settings))
     ∷ entry 4 (cause4 (p .settings))
     ∷ entry 5 (cause5 (p .settings))
-    ∷ []
+    ∷ [])
 
 abbrev pub listsPart : List Rule → Picture → List Entry
 listsPart rules p =

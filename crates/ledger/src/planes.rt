@@ -1,9 +1,8 @@
 // The ledger of planes alone (document 02, C-11): its checks are the picture's own, fewer and in the same order.
 use crate::Verdict;
+use crate::settings::check_format;
 use checks::bad_depths;
-use checks::bad_format;
 use checks::bad_planes;
-use checks::bad_sizes;
 use list_checks::first_bad_original;
 use picture::Settings;
 ghost use mathlib.Core.Path.{_≡_};
@@ -17,12 +16,10 @@ ghost use Rattle.ledger.specs.Numbered.{numbered};
 pub fn check_planes(settings: Settings, y: &[u16], cb: &[u16], cr: &[u16]) -> Verdict
     ensures { λ r. ⌜ numbered r ≡ firstOf (planesLedger (ofPlanes settings (planesGiven y cb cr))) ⌝ }
 {
-    if bad_sizes(settings) {
-        return Verdict::Size;
-    }
-    if bad_format(settings) {
-        return Verdict::Format;
-    }
+    let answer = check_format(settings);
+    let Verdict::Accepted = answer else {
+        return answer;
+    };
     if bad_depths(settings) {
         return Verdict::Depth;
     }

@@ -12,8 +12,10 @@ use Rattle.ints.specs.Int.{_⊖_, neg, lt}
 use Rattle.ints.proofs.Bounds.{low-out, most-out}
 use Rattle.ints.proofs.Laws.{diffs, lt-diff, pos-lt}
 use Rattle.picture.specs.Accepted.{
+  SizeOk,
   SettingsOk,
   PlanesOk,
+  SamplesOk,
   SliceOk,
   StartsOk,
   CellOk,
@@ -303,19 +305,21 @@ planes-is p ok =
     let g10 = samples-in p (λ c k h. le-ltb _ _ (ok .samples c k h)) in
     good-in (planesLedger p) (g1, (g2, (g3, (g6, (g10, tt)))))
 
--- those of a picture that passes its own checks
+-- by the settings of a whole picture
+pub planes-with : (p : Picture) → SizeOk (p .width) → SizeOk (p .height) → SettingsOk (p .settings)
+    → PlanesOk p (p .originals) → SamplesOk p → firstOf (planesLedger p) ≡ acceptance
+planes-with p width height t long samples = planes-is p record {
+  width = width;
+  height = height;
+  format = t .format;
+  luma-low = t .luma-low;
+  luma-high = t .luma-high;
+  chroma-low = t .chroma-low;
+  chroma-high = t .chroma-high;
+  originals = long;
+  samples = samples;
+}
+
+-- the planes of a picture that passes its own checks
 pub own-planes : (p : Picture) → PictureOk p → firstOf (planesLedger p) ≡ acceptance
-own-planes p ok =
-    let t = ok .settings in
-    planes-is p
-    record {
-      width = ok .width;
-      height = ok .height;
-      format = t .format;
-      luma-low = t .luma-low;
-      luma-high = t .luma-high;
-      chroma-low = t .chroma-low;
-      chroma-high = t .chroma-high;
-      originals = ok .originals;
-      samples = ok .samples;
-    }
+own-planes p ok = planes-with p (ok .width) (ok .height) (ok .settings) (ok .originals) (ok .samples)

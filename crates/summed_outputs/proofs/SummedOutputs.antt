@@ -20,7 +20,7 @@ use Rattle.picture.specs.Ledger.{Verdict, acceptance, firstOf}
 use Rattle.picture.specs.Picture.{Picture, Planes, depthOf, largest, planeHeight, planeOf, planeWidth, withPlanes}
 use Rattle.picture.specs.Plane.{at}
 use Rattle.picture.specs.Scale.{Component, Y, Cb, Cr}
-use Rattle.picture.proofs.Accepted.{accepted-by, planes-is}
+use Rattle.picture.proofs.Accepted.{accepted-by, planes-with}
 use Rattle.summed_outputs.specs.SummedOutputs.{OutputsSummed, finishedSum, finishedSums}
 
 -- a plane that has a sample has columns
@@ -51,19 +51,7 @@ module _ (p : Picture) (lent : Planes) (e : verdict p lent ≡ acceptance) where
   checked : firstOf (planesLedger q) ≡ acceptance
   checked =
       let ok = accepted-by p lent e .picture in
-      let t = ok .settings in
-      planes-is q
-      record {
-        width = ok .width;
-        height = ok .height;
-        format = t .format;
-        luma-low = t .luma-low;
-        luma-high = t .luma-high;
-        chroma-low = t .chroma-low;
-        chroma-high = t .chroma-high;
-        originals = long;
-        samples = in-range;
-      }
+      planes-with q (ok .width) (ok .height) (ok .settings) long in-range
 
   one : (c : Component) → planeSum q c ≡ finishedSum p c
   one c =

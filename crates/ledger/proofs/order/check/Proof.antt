@@ -1,6 +1,5 @@
 -- `check` meets its contract: a refusal by the settings is the answer; else the lengths are tried, and then the lists.
 -- Assumes nothing.
-use mathlib.Core.Path.{sym, ap, _∙_}
 use mathlib.Core.Bool.{Bool}
 use mathlib.Core.List.{List, _∷_}
 use native.Mathlib.Omega.{arith}
@@ -9,12 +8,11 @@ use Rattle.picture.specs.Causes.{cause6, cellRules, ledger}
 use Rattle.picture.specs.Given.{bare, pictureOf, planesOf}
 use Rattle.picture.specs.Ledger.{Entry, entry, firstOf}
 use Rattle.picture.specs.Picture.{Picture}
-use Rattle.picture.proofs.Ledger.{AllGood, good-out}
+use Rattle.picture.proofs.Ledger.{AllGood}
 use Rattle.checks.specs.Lengths.{badLengths, lentTests}
-use Rattle.ledger.specs.Numbered.{numbered}
 use Rattle.ledger.specs.Parts.{listsPart, settingsPart}
 use Rattle.ledger.proofs.Answers.{LeftTo, all-left, answers, goes-on, goes-past-all, refused-by}
-use Rattle.ledger.proofs.Answers.{settled, sizes, stops}
+use Rattle.ledger.proofs.Answers.{settled, sizes, stops, told-good}
 use Rattle.ledger.proofs.Refusals.{refuses}
 use Rattle.ledger.proofs.order.check.Statement.{statement}
 use Rattle.ledger.proofs.order.check.Tie as tie
@@ -52,8 +50,8 @@ others s = entry 6 (cause6 (lent s) (picture s)) ∷ listsPart cellRules (pictur
 -- where the settings are accepted the answer is left to those
 good : (c : tie.After-enum-told) → AllGood (settingsPart (bare (told c .args .settings)))
 good c =
-    let answer = sym (settings-tried c .check-settings .ensures) ∙ ap numbered (c .enum-told .given .1) in
-    good-out (settingsPart (bare (told c .args .settings))) (omega arith) (ap (λ v. v .number) answer)
+    told-good (settingsPart (bare (told c .args .settings))) (omega arith) (settings-tried c .check-settings .ensures)
+    (c .enum-told .given .1)
 
 rest : (c : tie.After-enum-told) →
     let s = told c in
