@@ -13,6 +13,7 @@ use crate::ours;
 use crate::picture::{PLANE_NAMES, Picture};
 use crate::random::Random;
 use crate::standard;
+use crate::sums;
 use crate::theirs::kernels::Calls;
 use crate::theirs::share::Share;
 use crate::theirs::{Grid, Rust};
@@ -40,6 +41,8 @@ pub struct Found {
     pub agreed: Option<Agreed>,
     /// Strengths that had no edge, where C-14's rule alone refuses the picture.
     pub zeroed: u64,
+    /// The checksums of the given planes.
+    pub summed: sums::Outcome,
 }
 
 /// The first sample that differs, with both values.
@@ -134,8 +137,9 @@ fn check_accepted(p: &Picture, planes: &[Vec<u16>; 3], rust: &mut Rust, random: 
     check_fallback(known, &theirs, rust)?;
     same_counts(&coverage, &calls)?;
     let moved = [0, 1, 2].map(|k| planes[k].iter().zip(&p.planes[k]).filter(|(a, b)| a != b).count() as u64);
-    // Last: what is too far because it is another sample is told as that.
+    // Last: what is too far because it is another sample is told as that, and so is what sums up otherwise.
     let shares = moves::check(p, planes)?;
+    sums::check_finished(p, planes, random)?;
     Ok(Agreed { coverage, calls, moved, shares, tiles, absent_grid, left_out, parted: *planes != theirs, theirs })
 }
 
@@ -163,16 +167,17 @@ fn check_unconverted(p: &Picture, converted: &Agreed, planes: &[Vec<u16>; 3], ru
     same_planes(p, planes, &standard::deblocked(p), "second program on the unconverted")
 }
 
-/// Both sides on one picture, accepted or not, and on its cell list. An error says what differs.
+/// Both sides on one picture, accepted or not, on its cell list and on the checksums of its planes. An error says what differs.
 pub fn check(p: &Picture, rust: &mut Rust, random: &mut Random) -> Result<Found, String> {
     let (agreed, _) = check_as_it_is(p, rust, random)?;
     lists::check(&p.cells, p.cells.len(), random)?;
+    let summed = sums::check_given(p, random)?;
     if agreed.is_some() || ledger::verdict_before(p) != (0, 0) {
-        return Ok(Found { agreed, zeroed: 0 });
+        return Ok(Found { agreed, zeroed: 0, summed });
     }
     let converted = conversion::picture(p.clone());
     let (agreed, planes) = check_as_it_is(&converted, rust, random).map_err(|what| format!("converted: {what}"))?;
     let agreed = agreed.ok_or("the ledger refuses the converted picture")?;
     check_unconverted(p, &agreed, &planes, rust)?;
-    Ok(Found { agreed: Some(agreed), zeroed: conversion::zeroed(&p.cells, &converted.cells) })
+    Ok(Found { agreed: Some(agreed), zeroed: conversion::zeroed(&p.cells, &converted.cells), summed })
 }

@@ -1,7 +1,7 @@
 //! The refusal ledger of document 01 in Rust: which number and place a picture is answered with.
 //!
-//! Written from document 01, and from document 02 C-19 for flag bit 4 and C-14 for strengths without an edge, alone. It shares nothing with
-//! the stage, nor with the customer's Rust, which refuses nothing.
+//! Written from document 01, and from document 02 C-19 for flag bit 4, C-14 for strengths without an edge and C-11 for the checks of planes
+//! alone, and from nothing else. It shares nothing with the stage, nor with the customer's Rust, which refuses nothing.
 
 use crate::picture::{CELL_BYTES, Picture, SLICE_BYTES};
 
@@ -11,52 +11,50 @@ pub type Verdict = (u32, u64);
 /// What a cell record must not be besides out of range.
 type Against = fn(&[u8]) -> bool;
 
+/// A cause with its number, and what finds its place, or nothing. Those after it may rely on it.
+type Cause = (u32, fn(&Picture) -> Option<usize>);
+
+const SIZES: Cause = (1, |p| at_zero(size_allowed(p.width) && size_allowed(p.height)));
+const FORMAT: Cause = (2, |p| at_zero(p.format <= 3));
+const DEPTHS: Cause = (3, |p| at_zero([p.luma_depth, p.chroma_depth].iter().all(|depth| (8..=16).contains(depth))));
+const CTB: Cause = (4, |p| at_zero((4..=6).contains(&p.log2_ctb)));
+const OFFSETS: Cause = (5, |p| at_zero([p.cb_offset, p.cr_offset].iter().all(|offset| (-12..=12).contains(offset))));
+const LENGTHS: Cause = (6, |p| at_zero(planes_exact(p) && lengths_exact(p)));
+const PLANE_LENGTHS: Cause = (6, |p| at_zero(planes_exact(p)));
+const SLICES: Cause = (7, bad_slice);
+const STARTS: Cause = (8, bad_start);
+const CELLS: Cause = (9, |p| bad_cell(p, edgeless));
+const CELLS_BEFORE: Cause = (9, |p| bad_cell(p, |_| false));
+const SAMPLES: Cause = (10, bad_sample);
+
 pub fn verdict(p: &Picture) -> Verdict {
-    with_rule(p, edgeless)
+    first(p, &[SIZES, FORMAT, DEPTHS, CTB, OFFSETS, LENGTHS, SLICES, STARTS, CELLS, SAMPLES])
 }
 
 /// The verdict without C-14's rule, by which stored pictures were accepted before it.
 pub fn verdict_before(p: &Picture) -> Verdict {
-    with_rule(p, |_| false)
+    first(p, &[SIZES, FORMAT, DEPTHS, CTB, OFFSETS, LENGTHS, SLICES, STARTS, CELLS_BEFORE, SAMPLES])
 }
 
-fn with_rule(p: &Picture, against: Against) -> Verdict {
-    let settings = bad_setting(p);
-    if settings != 0 {
-        return (settings, 0);
-    }
-    if !lengths_exact(p) {
-        return (6, 0);
-    }
-    let lists = [(7, bad_slice(p)), (8, bad_start(p)), (9, bad_cell(p, against)), (10, bad_sample(p))];
-    for (number, place) in lists {
-        if let Some(place) = place {
-            return (number, place as u64);
-        }
-    }
-    (0, 0)
+/// The verdict on the given planes alone, before their checksums: document 02, C-11.
+pub fn planes_verdict(p: &Picture) -> Verdict {
+    first(p, &[SIZES, FORMAT, DEPTHS, PLANE_LENGTHS, SAMPLES])
+}
+
+fn first(p: &Picture, causes: &[Cause]) -> Verdict {
+    causes.iter().find_map(|(number, place)| Some((*number, place(p)? as u64))).unwrap_or((0, 0))
+}
+
+fn at_zero(allowed: bool) -> Option<usize> {
+    (!allowed).then_some(0)
 }
 
 fn size_allowed(n: u32) -> bool {
     n % 8 == 0 && (8..=8192).contains(&n)
 }
 
-/// The first of causes 1 to 5, or 0.
-fn bad_setting(p: &Picture) -> u32 {
-    let depths = [p.luma_depth, p.chroma_depth];
-    let offsets = [p.cb_offset, p.cr_offset];
-    let allowed = [
-        size_allowed(p.width) && size_allowed(p.height),
-        p.format <= 3,
-        depths.iter().all(|depth| (8..=16).contains(depth)),
-        (4..=6).contains(&p.log2_ctb),
-        offsets.iter().all(|offset| (-12..=12).contains(offset)),
-    ];
-    allowed.iter().position(|good| !good).map_or(0, |at| at as u32 + 1)
-}
-
-/// Cause 6. The settings are allowed by now.
-fn lengths_exact(p: &Picture) -> bool {
+/// What the three planes must have. The settings are allowed by now.
+fn plane_lengths(p: &Picture) -> [usize; 3] {
     let (width, height) = (p.width as usize, p.height as usize);
     let chroma = match p.format {
         0 => 0,
@@ -64,11 +62,18 @@ fn lengths_exact(p: &Picture) -> bool {
         2 => (width / 2) * height,
         _ => width * height,
     };
-    let wanted = [width * height, chroma, chroma];
-    let given = [0, 1, 2].map(|plane| p.planes[plane].len());
-    given == wanted
-        && p.out_lengths == wanted
-        && p.cells.len() == CELL_BYTES * (width / 4) * (height / 4)
+    [width * height, chroma, chroma]
+}
+
+/// Of the given planes.
+fn planes_exact(p: &Picture) -> bool {
+    [0, 1, 2].map(|plane| p.planes[plane].len()) == plane_lengths(p)
+}
+
+/// Of all other lists.
+fn lengths_exact(p: &Picture) -> bool {
+    p.out_lengths == plane_lengths(p)
+        && p.cells.len() == CELL_BYTES * (p.width as usize / 4) * (p.height as usize / 4)
         && p.slices.len() % SLICE_BYTES == 0
         && p.slices.len() <= 2400
         && (1..=20).contains(&p.columns.len())

@@ -1,6 +1,6 @@
 //! The stage beside the customer's Rust, a second program from H.265 and document 01's refusal ledger, on random pictures; and the
-//! conversion of cell lists, on random lists. README.md says what is compared. Besides, a search for pictures whose samples go as far as
-//! they can.
+//! conversion of cell lists, on random lists; and the checksums of planes, on those of the pictures and on random ones. README.md says what
+//! is compared. Besides, a search for pictures whose samples go as far as they can.
 
 #![allow(dead_code)] // not all of the customer's files is called from here
 
@@ -34,6 +34,7 @@ mod standard;
 mod theirs;
 
 mod check;
+mod checksum;
 mod content;
 mod conversion;
 mod coverage;
@@ -50,10 +51,13 @@ mod lists;
 mod moves;
 mod options;
 mod ours;
+mod planes;
+mod planes_tally;
 mod program;
 mod random;
 mod search;
 mod shrink;
+mod sums;
 mod tally;
 
 use options::Options;
@@ -96,6 +100,7 @@ fn look_at(picture: &Picture, kinds: &[usize], rust: &mut Rust, random: &mut Ran
     let accepted = verdict == (0, 0) || kinds.is_empty() && ledger::verdict_before(picture) == (0, 0);
     assert_eq!(kinds.is_empty(), accepted, "the generator made another picture than it should");
     let found = check::check(picture, rust, random)?;
+    tally.summed.count(&found);
     match &found.agreed {
         Some(agreed) if accepted => tally.count_accepted(picture, verdict, agreed, found.zeroed),
         _ => tally.count_refused(picture, verdict, kinds, &found),
@@ -107,16 +112,18 @@ fn look_at(picture: &Picture, kinds: &[usize], rust: &mut Rust, random: &mut Ran
 fn look_at_far(picture: &Picture, rust: &mut Rust, random: &mut Random, tally: &mut Tally) -> Result<(), String> {
     assert_eq!(ledger::verdict(picture), (0, 0), "the generator made another picture than it should");
     let found = check::check(picture, rust, random)?;
+    tally.summed.count(&found);
     tally.far.count(picture, &found.agreed.ok_or("an accepted picture was not filtered")?);
     Ok(())
 }
 
-/// Picture or list `number`: counted, or what differs. After the pictures come as many lists as there are accepted pictures, and then the
-/// adversarial pictures, which have numbers of their own.
+/// Picture, list or planes `number`: counted, or what differs. After the pictures come as many lists as there are accepted pictures, then
+/// the adversarial pictures, and then the planes, which both have numbers of their own.
 fn look_at_number(options: &Options, number: u64, rust: &mut Rust, tally: &mut Tally) -> Result<(), Difference> {
     let differs = |at: String, picture: Option<Picture>| move |what: String| Difference { at, picture, what };
     let lists = options.accepted + options.damaged;
     let far = lists + options.accepted;
+    let planes = far + options.far;
     if number < lists {
         let (picture, kinds, mut random) = picture(options, number);
         let looked = look_at(&picture, &kinds, rust, &mut random, tally);
@@ -129,10 +136,17 @@ fn look_at_number(options: &Options, number: u64, rust: &mut Rust, tally: &mut T
         tally.lists.count(&cells, out_length);
         return Ok(());
     }
-    let mut random = Random::new(options.seed, 4, number - far);
-    let picture = far::picture(&mut random);
-    let looked = look_at_far(&picture, rust, &mut random, tally);
-    looked.map_err(differs(format!("adversarial picture {}", number - far), Some(picture)))
+    if number < planes {
+        let mut random = Random::new(options.seed, 4, number - far);
+        let picture = far::picture(&mut random);
+        let looked = look_at_far(&picture, rust, &mut random, tally);
+        return looked.map_err(differs(format!("adversarial picture {}", number - far), Some(picture)));
+    }
+    let mut random = Random::new(options.seed, 5, number - planes);
+    let picture = planes::picture(&mut random, number - planes);
+    let found = sums::check_given(&picture, &mut random).map_err(differs(format!("planes {}", number - planes), None))?;
+    tally.planes.count(&picture, &found);
+    Ok(())
 }
 
 fn work(run: &Run) {
@@ -140,7 +154,7 @@ fn work(run: &Run) {
     let mut tally = Tally::new();
     loop {
         let number = run.next.fetch_add(1, Ordering::Relaxed);
-        let end = 2 * run.options.accepted + run.options.damaged + run.options.far;
+        let end = 2 * run.options.accepted + run.options.damaged + run.options.far + run.options.planes;
         if number >= end || number > run.last.load(Ordering::Relaxed) {
             break;
         }

@@ -385,6 +385,72 @@ FARTHEST = [
     Edit("picture_run/pictures", "y: farthest_move(y, outy)", "y: farthest_move(outy, outy)"),
 ]
 
+# The checksums of document 02's C-11: no high bytes in the mask, no row in it, or the row after; the high part at depth 8 too, left out at
+# 9, left out everywhere, joined without the mask, or the low byte twice; a sum that starts at 1, or is kept modulo 2^31; the last column or
+# row left out; width and height exchanged, of luma and of chroma; one component's depth for the other's; Cb for Cr.
+MASK = "folded(x) ^ row"
+CHECKSUM = [
+    Edit("checksum/plane", "(n % 256) ^ (n / 256)", "n % 256"),
+    Edit("checksum/plane", MASK, "folded(x)"),
+    Edit("checksum/plane", "let row = folded(y);", "let row = folded(y + 1);"),
+    Edit("checksum/plane", "if depth <= 8 {", "if depth < 8 {"),
+    Edit("checksum/plane", "if depth <= 8 {", "if depth <= 9 {"),
+    Edit("checksum/plane", "if depth <= 8 {", "if depth <= 16 {"),
+    Edit("checksum/plane", MASK, f"if high {{ 0 }} else {{ {MASK} }}"),
+    Edit("checksum/plane", "sample as u32 / 256", "sample as u32 % 256"),
+    Edit("checksum/plane", "let mut sum = 0;", "let mut sum = 1;"),
+    Edit("checksum/plane", "wrapping_add_u32(before, byte ^ mask)", "wrapping_add_u32(before, byte ^ mask) % 2147483648"),
+    Edit("checksum/plane", "while x < width {", "while x + 1 < width {"),
+    Edit("checksum/plane", "while y < height {", "while y + 1 < height {"),
+    Edit("checksum/planes", "settings.width, settings.height, settings.luma_depth", "settings.height, settings.width, settings.luma_depth"),
+    Edit("checksum/planes", "settings.luma_depth)", "settings.chroma_depth)"),
+    Edit("checksum/planes", "down as u32, settings.chroma_depth", "down as u32, settings.luma_depth"),
+    Edit("checksum/planes", "across.0 as u32, down as u32", "down as u32, across.0 as u32"),
+    Edit("checksum/planes", "cb: chroma_checksum(settings, cb)", "cb: chroma_checksum(settings, cr)"),
+]
+
+# Their checks: 6 before 3, 10 before 6, 3 before 1 and 2; the depths not looked at in format 0; a plane's length taken for another's. And their C
+# function: a place not stored, or 0; a refusal that writes; Cb's sum in format 0; two sums, or the two depths, exchanged.
+FORMAT = """    let answer = check_format(settings);
+    let Verdict::Accepted = answer else {
+        return answer;
+    };
+"""
+DEPTHS, LENGTHS = (f"    if bad_{name} {{\n        return Verdict::{verdict};\n    }}\n" for name, verdict in [
+    ("depths(settings)", "Depth"), ("planes(settings, y.len(), cb.len(), cr.len())", "Lengths")])
+SAMPLES = """    let sample = first_bad_original(settings, y, cb, cr);
+    if sample < y.len() + (cb.len() + cr.len()) {
+        return Verdict::Sample(sample);
+    }
+"""
+CHECKED = [
+    Edit("ledger/planes", DEPTHS + LENGTHS, LENGTHS + DEPTHS),
+    Edit("ledger/planes", LENGTHS + SAMPLES, SAMPLES + LENGTHS),
+    Edit("ledger/planes", FORMAT + DEPTHS, DEPTHS + FORMAT),
+    Edit("ledger/planes", "if bad_depths(settings) {", "if bad_depths(settings) & (0 < settings.chroma_format) {"),
+    Edit("ledger/planes", "y.len(), cb.len(), cr.len())", "y.len(), cb.len(), cb.len())"),
+    Edit("tinladle/sums", "*place = 0;", "*place = *place;"),
+    Edit("tinladle/sums", "*place = place_of(verdict);", "*place = 0;"),
+    Edit("tinladle/sums", "*place = place_of(verdict);", "*place = place_of(verdict);\n            *sum_y = 0;"),
+    Edit("tinladle/sums", "*sum_y = luma;\n            0", "*sum_y = luma;\n            *sum_cb = 0;\n            0"),
+    Edit("tinladle/sums", "*sum_cb = blue;\n            *sum_cr = red;", "*sum_cb = red;\n            *sum_cr = blue;"),
+    Edit("tinladle/sums", "        luma_depth: luma_depth,\n        chroma_depth: chroma_depth,\n",
+         "        luma_depth: chroma_depth,\n        chroma_depth: luma_depth,\n"),
+]
+
+# What the programs print of them: Cb and Cr exchanged, of given planes and of finished ones; the originals for the finished planes; a
+# refusal's place 0, and seven digits.
+SUMMED = [
+    Edit("picture_run/pictures", "picture_checksums(settings(head), y, cb, cr)", "picture_checksums(settings(head), y, cr, cb)"),
+    Edit("picture_text/sums", 'put_number_then(place_of(verdict), b"\\n")', 'put_number_then(0, b"\\n")'),
+    Edit("picture_text/sums", "put_hex_then(sum as u64, 8, end)", "put_hex_then(sum as u64, 7, end)"),
+]
+FINISHED = [
+    Edit("picture_run/pictures", "picture_checksums(settings, outy, outcb, outcr)", "picture_checksums(settings, outy, outcr, outcb)"),
+    Edit("picture_run/pictures", "finished_checksums(settings, verdict, outy, outcb, outcr)",
+         "finished_checksums(settings, verdict, y, cb, cr)"),
+]
+
 
 def built_as(crate, edits):
     return [edit._replace(built=crate) for edit in edits]
@@ -392,4 +458,5 @@ def built_as(crate, edits):
 
 EDITS = [*THRESHOLDS, *DECISION, *LINES, *WINDOWS, *GATE, *TILES_AND_POSITIONS, *PASSES, *RESTORATION, *CHECKS, *MISTAKES,
          *EMPTY_LIST, *PALETTE, *RULE, *CONVERSION, *built_as("convert_cells", CONVERTER), *built_as("segment_bench", COUNTS),
-         *built_as("far_pictures", FARTHEST)]
+         *built_as("far_pictures", FARTHEST), *CHECKSUM, *CHECKED, *built_as("checksum_cases", SUMMED),
+         *built_as("real_checksums", FINISHED)]

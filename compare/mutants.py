@@ -3,12 +3,14 @@
 
     compare/mutants.py [SRC]            SRC: the customer's folder docs/src, by default ../shared/docs/src seen from the repository's root
     compare/mutants.py [SRC] --only K   mutant K alone
+    compare/mutants.py [SRC] --from K   mutant K and those after it
     compare/mutants.py --places         builds nothing: does each mutant's place stand once in the sources?
 
 A mutant is a copy of the sources under target/mutants changed at one place, built without proof (unproved.py). The comparison loads its
 library in place of the proved static library, or runs its program convert_cells. Of what the bench prints and the stage does not, and of
 single entries of a table, the program segment_bench is run beside the oracle, on random records and on those that read each entry. Of how
-far samples go the program far_pictures is run, and held to its stored text. The unchanged sources go first: there nothing may be found.
+far samples go the program far_pictures is run, and held to its stored text, and of what is printed of checksums checksum_cases or
+real_checksums. The unchanged sources go first: there nothing may be found.
 Prints a line for each mutant. The status is 0 where every mutant was noticed but those that are argued to change no output.
 """
 
@@ -22,9 +24,10 @@ from pathlib import Path
 sys.dont_write_bytecode = True
 
 from mutant_edits import EDITS
-from unproved import BENCH, CONVERTER, FAR, LIBRARY, ROOT, WORK, begin, build_library, build_program, copy_sources, must
+from unproved import (BENCH, CONVERTER, FAR, FINISHED, LIBRARY, ROOT, SUMS, WORK, begin, build_library, build_program, copy_sources,
+                      must, renamed)
 
-ACCEPTED, DAMAGED, ADVERSARIAL, SEED = 4000, 8000, 4000, 7
+ACCEPTED, DAMAGED, ADVERSARIAL, PLANES, SEED = 4000, 8000, 4000, 4000, 7
 LISTS = 300  # through convert_cells, each of up to 160 KiB
 RECORDS = 2000  # through segment_bench
 PATIENCE = 120  # seconds for one run: a mutant may not end
@@ -72,7 +75,7 @@ def compare_stage(library, *words):
 
 
 def compare_library(folder):
-    return compare_stage(folder, "--accepted", ACCEPTED, "--damaged", DAMAGED, "--far", ADVERSARIAL)
+    return compare_stage(folder, "--accepted", ACCEPTED, "--damaged", DAMAGED, "--far", ADVERSARIAL, "--planes", PLANES)
 
 
 def compare_converter(folder):
@@ -87,18 +90,24 @@ def compare_bench(folder):
     return found and f"bench: {found}"
 
 
-def compare_far(folder):
-    found = difference(ROOT / "oracle" / "far_pictures.py", "stored", folder / "program")
-    return found and f"far_pictures: {found}"
+def compare_stored(script, word, crate):
+    """A program with its stored text, by a script of the oracle's."""
+    def compare(folder):
+        found = difference(ROOT / "oracle" / script, word, folder / "program")
+        return found and f"{crate}: {found}"
+    return compare
 
 
-COMPARISONS = {LIBRARY: compare_library, CONVERTER: compare_converter, BENCH: compare_bench, FAR: compare_far}
+COMPARISONS = {LIBRARY: compare_library, CONVERTER: compare_converter, BENCH: compare_bench,
+               FAR: compare_stored("far_pictures.py", "stored", FAR), SUMS: compare_stored("checksums.py", "stored", SUMS),
+               FINISHED: compare_stored("checksums.py", "finished", FINISHED)}
 
 
 def place(crates, edit):
-    """The file that a mutant changes, in a folder of crates."""
+    """The file that a mutant changes, in a folder of crates. In a copy it may have another name."""
     crate, name = edit.file.split("/")
-    return crates / crate / "src" / f"{name}.rt"
+    path = crates / crate / "src" / f"{name}.rt"
+    return path if path.is_file() else renamed(path)
 
 
 def check_places():
@@ -138,12 +147,24 @@ def try_one(number, edit):
 
 def try_unchanged(unchanged):
     """Whether nothing is found in the unchanged sources."""
-    print(f"comparison with --accepted {ACCEPTED} --damaged {DAMAGED} --far {ADVERSARIAL} --seed {SEED}; of {CONVERTER} with {LISTS} "
-          f"lists, of {BENCH} with {RECORDS} records and the table's, of {FAR} with its stored pictures")
+    print(f"comparison with --accepted {ACCEPTED} --damaged {DAMAGED} --far {ADVERSARIAL} --planes {PLANES} --seed {SEED}; of {CONVERTER}"
+          f" with {LISTS} lists, of {BENCH} with {RECORDS} records and the table's, of {FAR}, {SUMS} and {FINISHED} with their stored"
+          " pictures")
     found = [COMPARISONS[crate](folder) for crate, folder in unchanged.items()]
     for crate, what in zip(unchanged, found):
         print(f"the unchanged {crate}, unproved: {what or 'no difference'}", flush=True)
     return not any(found)
+
+
+def asked(words):
+    """The first and the last mutant to try. Takes what asks for them out of the words."""
+    for word in ("--only", "--from"):
+        if word in words:
+            at = words.index(word)
+            first = int(words[at + 1])
+            del words[at:at + 2]
+            return first, first if word == "--only" else len(EDITS)
+    return 1, len(EDITS)
 
 
 def main():
@@ -152,15 +173,11 @@ def main():
     if words == ["--places"]:
         print(f"each of {len(EDITS)} mutants has its place")
         return
-    only = None
-    if "--only" in words:
-        at = words.index("--only")
-        only = int(words[at + 1])
-        del words[at:at + 2]
+    first, last = asked(words)
     source = Path(words[0] if words else ROOT.parent / "shared" / "docs" / "src").resolve()
     good = try_unchanged(prepare(source))
     print("| | file | line | mutant | noticed by |\n|---|---|---|---|---|")
-    results = [try_one(number, edit) for number, edit in enumerate(EDITS, 1) if only in (None, number)]
+    results = [try_one(number, edit) for number, edit in enumerate(EDITS, 1) if first <= number <= last]
     noticed = sum(not edit.equal for edit in EDITS)
     print(f"{len(results)} of {len(EDITS)} mutants tried, {results.count(True)} as expected; {noticed} of all are expected to be noticed")
     sys.exit(0 if good and results and all(results) else 1)

@@ -3,8 +3,10 @@
 pub struct Options {
     pub accepted: u64,
     pub damaged: u64,
-    /// Adversarial pictures, which come last.
+    /// Adversarial pictures, which come after the lists.
     pub far: u64,
+    /// Planes for their checksums, which come last.
+    pub planes: u64,
     pub seed: u64,
     pub threads: u64,
     /// Whether a picture on which the two sides differ is made smaller.
@@ -17,8 +19,8 @@ pub struct Options {
     pub search: Option<String>,
 }
 
-const USAGE: &str = "arguments: --accepted N, --damaged N, --far N, --seed S, --threads T, --smallest FILE, --no-shrink, --program FILE, \
-    --search FILE";
+const USAGE: &str = "arguments: --accepted N, --damaged N, --far N, --planes N, --seed S, --threads T, --smallest FILE, --no-shrink, \
+    --program FILE, --search FILE";
 
 impl Options {
     pub fn read(mut words: impl Iterator<Item = String>) -> Result<Options, String> {
@@ -28,6 +30,7 @@ impl Options {
             accepted: 100_000,
             damaged: 100_000,
             far: 100_000,
+            planes: 100_000,
             seed: 20261115,
             threads: cores,
             shrink: true,
@@ -42,6 +45,7 @@ impl Options {
                 "--accepted" => options.accepted = number(value()?)?,
                 "--damaged" => options.damaged = number(value()?)?,
                 "--far" => options.far = number(value()?)?,
+                "--planes" => options.planes = number(value()?)?,
                 "--seed" => options.seed = number(value()?)?,
                 "--threads" => options.threads = number(value()?)?.max(1),
                 "--smallest" => options.smallest = value()?,

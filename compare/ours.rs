@@ -2,7 +2,7 @@
 //! filled with junk beforehand.
 
 use crate::guards::Lent;
-use crate::library::{tinladle_convert_cells, tinladle_deblock};
+use crate::library::{tinladle_checksum, tinladle_convert_cells, tinladle_deblock};
 use crate::picture::{PLANE_NAMES, Picture};
 use crate::random::Random;
 
@@ -120,4 +120,42 @@ pub fn convert(cells: &[u8], out_length: usize, random: &mut Random) -> Result<(
         return Err(format!("the conversion's refusal {number} wrote the output list"));
     }
     Ok((number, out.items().to_vec()))
+}
+
+/// What the checksum function answered, and what the places of its sums hold, with what they held before.
+pub struct Summed {
+    pub number: u32,
+    pub place: u64,
+    pub sums: [u32; 3],
+    pub junk: [u32; 3],
+}
+
+/// As above, each pointer goes with its own buffer's length, and the buffers lie apart.
+#[rustfmt::skip]
+fn call_checksum(p: &Picture, planes: &mut [Lent<u16>; 3], sums: &mut [Lent<u32>; 3], place: &mut Lent<u64>, null: bool) -> u32 {
+    let ([y, cb, cr], [sum_y, sum_cb, sum_cr]) = (planes, sums);
+    unsafe {
+        tinladle_checksum(
+            p.width, p.height, p.format, p.luma_depth, p.chroma_depth,
+            y.at(null), y.len(), cb.at(null), cb.len(), cr.at(null), cr.len(),
+            sum_y.at(false), sum_cb.at(false), sum_cr.at(false), place.at(false),
+        )
+    }
+}
+
+/// The checksum function on planes, with a picture's settings; or what it wrote that it must not.
+pub fn checksum(p: &Picture, planes: &[Vec<u16>; 3], random: &mut Random) -> Result<Summed, String> {
+    let word = random.next();
+    let (null, junk) = (word >> 63 == 1, [0, 16, 32].map(|shift| (word >> shift) as u32));
+    let mut lent = [0, 1, 2].map(|plane| Lent::of(&planes[plane], word as u16));
+    let mut sums = junk.map(|junk| Lent::of(&[junk], !junk));
+    let mut place = Lent::of(&[word], !word);
+    let number = call_checksum(p, &mut lent, &mut sums, &mut place, null);
+    if !lent.iter().all(Lent::guarded) || !sums.iter().all(Lent::guarded) || !place.guarded() {
+        return Err("the checksum function wrote a guard word".into());
+    }
+    if let Some(plane) = (0..3).find(|&plane| lent[plane].items() != planes[plane]) {
+        return Err(format!("the checksum function wrote {}", PLANE_NAMES[plane]));
+    }
+    Ok(Summed { number, place: place.items()[0], sums: sums.map(|sum| sum.items()[0]), junk })
 }

@@ -8,6 +8,7 @@ use crate::ledger::Verdict;
 use crate::lists::Lists;
 use crate::moves::Shares;
 use crate::picture::Picture;
+use crate::planes_tally::{PicturesTally, PlanesTally};
 
 /// Counts by a small number: pictures, and segments that the kernels filtered, or those of the pictures that meet their bounds.
 pub type Table<const N: usize> = [(u64, u64); N];
@@ -75,6 +76,8 @@ pub struct Tally {
     refused_out_of_rule: OutOfRule,
     pub lists: Lists,
     pub far: FarTally,
+    pub summed: PicturesTally,
+    pub planes: PlanesTally,
     /// Of the accepted pictures.
     shares: Shares,
     many_slices: u64,
@@ -176,6 +179,8 @@ impl Tally {
         self.refused_out_of_rule.add(&more.refused_out_of_rule);
         self.lists.add(&more.lists);
         self.far.add(&more.far);
+        self.summed.add(&more.summed);
+        self.planes.add(&more.planes);
         self.shares.add(&more.shares);
         self.many_slices += more.many_slices;
         self.luma_samples += more.luma_samples;
@@ -196,6 +201,8 @@ impl Tally {
         );
         self.shares.print("random pictures");
         self.far.print();
+        self.summed.print();
+        self.planes.print();
     }
 
     fn print_pictures(&self) {

@@ -1,5 +1,5 @@
-/* The C functions of include/tinladle.h over an unproved build, for mutants.py: there what the Rattle sources call tinladle_deblock and
- * tinladle_convert_cells are inner functions, which take each slice as the address of a pointer and a length. */
+/* The C functions of include/tinladle.h over an unproved build, for mutants.py: there what the Rattle sources call tinladle_deblock and so
+ * on are inner functions, which take each slice as the address of a pointer and a length. */
 #include "tinladle.h"
 
 struct Slice {
@@ -33,4 +33,16 @@ uint32_t unproved_convert_cells(const struct Slice *cells, const struct Slice *o
 uint32_t tinladle_convert_cells(const uint8_t *cells, size_t cells_len, uint8_t *out_cells, size_t out_cells_len, uint64_t *place) {
     struct Slice in = { cells, cells_len }, out = { out_cells, out_cells_len };
     return unproved_convert_cells(&in, &out, place);
+}
+
+uint32_t unproved_checksum(
+    uint32_t width, uint32_t height, uint32_t chroma_format, uint32_t luma_depth, uint32_t chroma_depth, const struct Slice *y,
+    const struct Slice *cb, const struct Slice *cr, uint32_t *sum_y, uint32_t *sum_cb, uint32_t *sum_cr, uint64_t *place);
+
+uint32_t tinladle_checksum(
+    uint32_t width, uint32_t height, uint32_t chroma_format, uint32_t luma_depth, uint32_t chroma_depth,
+    const uint16_t *y, size_t y_len, const uint16_t *cb, size_t cb_len, const uint16_t *cr, size_t cr_len,
+    uint32_t *sum_y, uint32_t *sum_cb, uint32_t *sum_cr, uint64_t *place) {
+    struct Slice in[] = { { y, y_len }, { cb, cb_len }, { cr, cr_len } };
+    return unproved_checksum(width, height, chroma_format, luma_depth, chroma_depth, &in[0], &in[1], &in[2], sum_y, sum_cb, sum_cr, place);
 }

@@ -2,7 +2,7 @@
 
 The kit's `rattle-cases`, which `rt try` runs, lowers a program; a stand-in for its clang keeps the module that it is given and ends the
 build. From the module of a program that calls the library's functions a shared library is made, from that of convert_cells, of
-segment_bench or of far_pictures the program. All of it stands under target/mutants.
+segment_bench, of far_pictures, of checksum_cases or of real_checksums the program. All of it stands under target/mutants.
 """
 
 import platform
@@ -16,6 +16,7 @@ from pathlib import Path
 ROOT = Path(__file__).resolve().parent.parent
 WORK = ROOT / "target" / "mutants"
 LIBRARY, CONVERTER, BENCH, FAR = "tinladle", "convert_cells", "segment_bench", "far_pictures"
+SUMS, FINISHED = "checksum_cases", "real_checksums"
 CALLER = WORK / "caller" / "main.rt"
 
 # A program that reaches the library's functions. It only has to be compiled.
@@ -27,12 +28,18 @@ PROGRAM = """fn main() {
     let mut cr: [u16; 1] = [0];
     let mut cells: [u8; 1] = [0];
     let mut place: u64 = 0;
+    let mut sum_y: u32 = 0;
+    let mut sum_cb: u32 = 0;
+    let mut sum_cr: u32 = 0;
     let n = &numbers[..];
     let b = &bytes[..];
     let number = tinladle::tinladle_deblock(
         0, 0, 0, 0, 0, 0, 0, 0, false, n, n, n, b, b, n, n, &mut y[..], &mut cb[..], &mut cr[..], &mut place,
     );
     let converted = tinladle::tinladle_convert_cells(b, &mut cells[..], &mut place);
+    let summed = tinladle::tinladle_checksum(
+        0, 0, 0, 0, 0, n, n, n, &mut sum_y, &mut sum_cb, &mut sum_cr, &mut place,
+    );
 }
 """
 
@@ -107,12 +114,16 @@ def copy_sources(name, crate):
     return folder
 
 
+def renamed(module):
+    return module.with_stem(f"{module.stem}_module")
+
+
 def rename(module):
     """Gives a module another name in its crate. rattle-cases shows all crates to each, and refuses a module with a crate's name."""
-    old, new = module.stem, f"{module.stem}_module"
+    old, new = module.stem, renamed(module).stem
     for path in module.parent.glob("*.rt"):
         path.write_text(re.sub(rf"(\bmod |crate::|^pub use ){old}\b", rf"\1{new}", path.read_text(), flags=re.MULTILINE))
-    module.rename(module.with_stem(new))
+    module.rename(renamed(module))
 
 
 def lowered(main, crates, kits, folder):

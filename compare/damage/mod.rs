@@ -47,6 +47,14 @@ fn places(count: usize, r: &mut Random) -> Vec<usize> {
     found
 }
 
+/// One to three kinds of damage at random, where there is something to spoil.
+pub fn spoil(p: &mut Picture, random: &mut Random) {
+    let all: Vec<&Kind> = kinds().collect();
+    for _ in 0..random.between(1, 3) {
+        (random.pick(&all).apply)(p, random);
+    }
+}
+
 /// A refused picture and the kinds of damage done to it. Picture `number` of a run has kind `number` in turn; a third of the pictures
 /// have one to three more.
 pub fn damaged(random: &mut Random, number: u64) -> (Picture, Vec<usize>) {
