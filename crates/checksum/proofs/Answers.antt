@@ -1,6 +1,6 @@
 -- What is answered: a refusal without a sum, or acceptance with the sums of the planes.
 use Prim.Native.Nat.{ℕ, _<_}
-use mathlib.Core.Path.{_≡_, sym, ap, ap₂, _∙_}
+use mathlib.Core.Path.{_≡_, refl, sym, ap, _∙_}
 use mathlib.Core.Bool.{cond}
 use mathlib.Core.List.{List, [], _∷_}
 use native.Mathlib.Omega.{arith}
@@ -11,6 +11,7 @@ use Rattle.picture.specs.Ledger.{Verdict, acceptance, firstOf}
 use Rattle.picture.specs.Picture.{Picture}
 use Rattle.picture.specs.Scale.{Y, Cb, Cr}
 use Rattle.checksum.specs.Answer.{Answer, checksumAnswer, planeSum, sums}
+use Rattle.checksum.specs.Rows.{chromaSum}
 
 module _ (p : Picture) where
   -- the answer by the ledger's
@@ -28,6 +29,11 @@ module _ (p : Picture) where
       → record { verdict = acceptance; given = l } ≡ checksumAnswer p
   unfolding checksumAnswer
   summed e h = ap (λ (l : List ℕ). record { verdict = acceptance; given = l }) h ∙ ap told e
+
+  -- the code's form of a chroma plane's sum is the definition's
+  pub chroma-sums :
+      (chromaSum p (p .originals .cb) ≡ planeSum p Cb) × (chromaSum p (p .originals .cr) ≡ planeSum p Cr)
+  chroma-sums = (refl, refl)
 
   -- a monochrome picture has one sum, every other three
   pub one-sum : p .settings .format ≡ 0 → {y : ℕ} → y ≡ planeSum p Y → y ∷ [] ≡ sums p

@@ -1,7 +1,6 @@
 -- The mask of a place, from what its column and its row bring to it.
 use Prim.Native.Nat.{ℕ, _*_, _+_, _/_, _%_, _^_, _<_}
 use mathlib.Core.Path.{_≡_, refl, sym, ap, ap₂, _∙_}
-use native.Mathlib.Nat.{mod-lt}
 use native.Mathlib.Omega.{arith}
 use borrow.Author.Count.{below-more, below-none}
 use lib.Arith.{bin-ind}

@@ -6,7 +6,6 @@ use lib.Dec.{eqb}
 use Rattle.picture.specs.Causes.{planesLedger}
 use Rattle.picture.specs.Ledger.{Verdict, acceptance, firstOf}
 use Rattle.picture.specs.Picture.{Picture, depthOf, original, planeHeight, planeWidth}
-use Rattle.picture.specs.Plane.{at}
 use Rattle.picture.specs.Scale.{Component, Y, Cb, Cr}
 use Rattle.ledger.specs.Numbered.{numbered}
 use Rattle.checksum.specs.Checksum.{checksum}
@@ -16,11 +15,6 @@ use Rattle.checksum.specs.declared.Checksums.{Checksums}
 -- a plane's sum, by its own depth and size
 abbrev pub planeSum : Picture → Component → ℕ
 planeSum p c = checksum (depthOf (p .settings) c) (planeWidth p c) (planeHeight p c) (original p c)
-
--- a chroma plane's, of these samples: planeSum of Cb and of Cr, by computation
-abbrev pub chromaSum : Picture → List ℕ → ℕ
-chromaSum p plane =
-    checksum (p .settings .chroma-depth) (planeWidth p Cb) (planeHeight p Cb) (at plane (planeWidth p Cb))
 
 -- "A monochrome sheet has one sum."
 abbrev pub sums : Picture → List ℕ

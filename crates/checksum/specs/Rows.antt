@@ -6,8 +6,10 @@ use mathlib.Core.List.{List}
 use lib.Bits.{bitXor}
 use lib.ListN.{getD}
 use Rattle.ints.specs.Sum.{sum}
-use Rattle.picture.specs.Plane.{Plane}
-use Rattle.checksum.specs.Checksum.{joining, mask}
+use Rattle.picture.specs.Picture.{Picture, planeHeight, planeWidth}
+use Rattle.picture.specs.Plane.{Plane, at}
+use Rattle.picture.specs.Scale.{Cb}
+use Rattle.checksum.specs.Checksum.{checksum, joining, mask}
 
 -- what a column, or a row, brings to the mask
 abbrev pub fold : ℕ → ℕ
@@ -25,3 +27,8 @@ partsSum high plane start width row =
 -- all that joins of row y
 unfoldable pub rowSum : ℕ → Plane → ℕ → ℕ → ℕ
 rowSum depth P width y = sum width (λ x. joining depth (P x y) (mask x y))
+
+-- of a chroma plane, by the settings of its picture (`chroma-sums`, proofs/Answers: of Cb and of Cr it is planeSum)
+abbrev pub chromaSum : Picture → List ℕ → ℕ
+chromaSum p plane =
+    checksum (p .settings .chroma-depth) (planeWidth p Cb) (planeHeight p Cb) (at plane (planeWidth p Cb))

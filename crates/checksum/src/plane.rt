@@ -1,7 +1,7 @@
 // The picture checksum of one plane: a u32 that starts at 0 and wraps, to which each sample's masked bytes are added.
 // Rows are walked in memory order, twice where the high parts join: a row stays in the cache.
 use std::num::wrapping_add_u32;
-ghost use Prim.Native.Nat.{_+_, _*_, _%_, _^_, _≤_, _<_};
+ghost use Prim.Native.Nat.{_+_, _*_, _%_, _^_, _≤_};
 ghost use mathlib.Core.Path.{_≡_};
 ghost use lib.Bits.{bitXor};
 ghost use lib.ListN.{length};

@@ -13,7 +13,8 @@ ghost use Rattle.picture.specs.Given.{bare, ofPlanes};
 ghost use Rattle.picture.specs.Lent.{given, planesGiven};
 ghost use Rattle.picture.specs.Picture.{planeHeight, planeWidth};
 ghost use Rattle.picture.specs.Scale.{Cb};
-ghost use Rattle.checksum.specs.Answer.{answerOf, chromaSum, checksumAnswer};
+ghost use Rattle.checksum.specs.Answer.{answerOf, checksumAnswer};
+ghost use Rattle.checksum.specs.Rows.{chromaSum};
 
 // Of a chroma plane, by the settings of its picture.
 fn chroma_checksum(settings: Settings, plane: &[u16]) -> u32

@@ -1,6 +1,6 @@
 -- `part_of` meets its contract, by which part is asked for.
 -- Assumes nothing.
-use mathlib.Core.Path.{_≡_, refl}
+use mathlib.Core.Path.{refl}
 use Rattle.checksum.proofs.plane.part_of.Statement.{statement}
 use Rattle.checksum.proofs.plane.part_of.Tie as tie
 

@@ -4,7 +4,6 @@ use Prim.Native.Nat.{ℕ, _-_, _%_, _^_, _≤_}
 use mathlib.Core.Path.{_≡_, refl, ap, _∙_}
 use native.Mathlib.Nat.{mul-comm}
 use native.Mathlib.Omega.{arith}
-use borrow.Author.Needs.{needs}
 use Rattle.picture.proofs.Index.{row-step}
 use Rattle.checksum.proofs.Rows.{rows-all, rows-more, rowsSum}
 use Rattle.checksum.proofs.plane.plane_checksum.Statement.{statement}

@@ -13,7 +13,7 @@ use Rattle.picture.specs.Scale.{Y, Cb, Cr}
 use Rattle.picture.proofs.Accepted.{planes-by}
 use Rattle.ledger.proofs.Refusals.{refuses}
 use Rattle.ledger.specs.Numbered.{numbered}
-use Rattle.checksum.proofs.Answers.{one-sum, refused, summed, three-sums}
+use Rattle.checksum.proofs.Answers.{chroma-sums, one-sum, refused, summed, three-sums}
 use Rattle.checksum.proofs.planes.picture_checksums.Statement.{statement}
 use Rattle.checksum.proofs.planes.picture_checksums.Tie as tie
 
@@ -70,8 +70,8 @@ returns-3 c =
     let luma = some .before .before in
     let p = picture (call (checked (luma .before))) in
     summed p (accepted (luma .before))
-    (three-sums p (some .if1 .left) (luma .plane-checksum .ensures) (c .before .chroma-checksum .ensures)
-    (c .chroma-checksum2 .ensures))
+    (three-sums p (some .if1 .left) (luma .plane-checksum .ensures)
+    (c .before .chroma-checksum .ensures ∙ chroma-sums p .0) (c .chroma-checksum2 .ensures ∙ chroma-sums p .1))
 
 pub picture-checksums-spec : {M : Type 1} → statement M
 picture-checksums-spec =
