@@ -10,25 +10,25 @@ use Rattle.picture.specs.Causes.{planesLedger}
 use Rattle.picture.specs.Ledger.{Verdict, acceptance, firstOf}
 use Rattle.picture.specs.Picture.{Picture}
 use Rattle.picture.specs.Scale.{Y, Cb, Cr}
-use Rattle.checksum.specs.Answer.{Answer, checksumAnswer, planeSum, sums}
+use Rattle.checksum.specs.Answer.{Answer, checksumAnswer, planeSum, planeSums}
 use Rattle.checksum.specs.Rows.{chromaSum}
 
 module _ (p : Picture) where
   -- the answer by the ledger's
   abbrev told : Verdict → Answer
-  told v = record { verdict = v; given = cond (eqb (v .number) 0) (sums p) [] }
+  told v = record { verdict = v; sums = cond (eqb (v .number) 0) (planeSums p) [] }
 
   pub refused : {v : Verdict} → v ≡ firstOf (planesLedger p) → 0 < v .number
-      → record { verdict = v; given = [] } ≡ checksumAnswer p
+      → record { verdict = v; sums = [] } ≡ checksumAnswer p
   unfolding checksumAnswer
   refused {v} e h =
-      let no-sum : told v ≡ record { verdict = v; given = [] } = rw (ne-eqb (v .number) 0 (omega arith)) in
+      let no-sum : told v ≡ record { verdict = v; sums = [] } = rw (ne-eqb (v .number) 0 (omega arith)) in
       sym no-sum ∙ ap told e
 
-  pub summed : acceptance ≡ firstOf (planesLedger p) → {l : List ℕ} → l ≡ sums p
-      → record { verdict = acceptance; given = l } ≡ checksumAnswer p
+  pub summed : acceptance ≡ firstOf (planesLedger p) → {l : List ℕ} → l ≡ planeSums p
+      → record { verdict = acceptance; sums = l } ≡ checksumAnswer p
   unfolding checksumAnswer
-  summed e h = ap (λ (l : List ℕ). record { verdict = acceptance; given = l }) h ∙ ap told e
+  summed e h = ap (λ (l : List ℕ). record { verdict = acceptance; sums = l }) h ∙ ap told e
 
   -- the code's form of a chroma plane's sum is the definition's
   pub chroma-sums :
@@ -36,11 +36,11 @@ module _ (p : Picture) where
   chroma-sums = (refl, refl)
 
   -- a monochrome picture has one sum, every other three
-  pub one-sum : p .settings .format ≡ 0 → {y : ℕ} → y ≡ planeSum p Y → y ∷ [] ≡ sums p
+  pub one-sum : p .settings .format ≡ 0 → {y : ℕ} → y ≡ planeSum p Y → y ∷ [] ≡ planeSums p
   one-sum mono e = rw (eq-eqb (p .settings .format) 0 mono) (ap (λ (n : ℕ). n ∷ []) e)
 
   pub three-sums : (p .settings .format ≡ 0 → ⊥) → {y cb cr : ℕ} → y ≡ planeSum p Y → cb ≡ planeSum p Cb
-      → cr ≡ planeSum p Cr → y ∷ cb ∷ cr ∷ [] ≡ sums p
+      → cr ≡ planeSum p Cr → y ∷ cb ∷ cr ∷ [] ≡ planeSums p
   three-sums some ey ecb ecr =
-      let all : sums p ≡ planeSum p Y ∷ planeSum p Cb ∷ planeSum p Cr ∷ [] = rw (ne-eqb (p .settings .format) 0 some) in
+      let all : planeSums p ≡ planeSum p Y ∷ planeSum p Cb ∷ planeSum p Cr ∷ [] = rw (ne-eqb (p .settings .format) 0 some) in
       (λ i. ey i ∷ ecb i ∷ ecr i ∷ []) ∙ sym all

@@ -46,7 +46,7 @@ planes-alone p = refl
 -- "A program with a built-in 8 by 8 sheet of zeros, depth 8, 4:2:0, prints one line a plane: 000000e0, 00000018,
 -- 00000018."
 pub zeros : checksumAnswer (alone 8 8 1 8 8 (planesOf (replicate 64 0) (replicate 16 0) (replicate 16 0)))
-    ≡ record { verdict = acceptance; given = 0xe0 ∷ 0x18 ∷ 0x18 ∷ [] }
+    ≡ record { verdict = acceptance; sums = 0xe0 ∷ 0x18 ∷ 0x18 ∷ [] }
 unfolding checksumAnswer checksum exactSum at
 zeros = refl
 

@@ -17,22 +17,22 @@ abbrev pub planeSum : Picture → Component → ℕ
 planeSum p c = checksum (depthOf (p .settings) c) (planeWidth p c) (planeHeight p c) (original p c)
 
 -- "A monochrome sheet has one sum."
-abbrev pub sums : Picture → List ℕ
-sums p = cond (eqb (p .settings .format) 0) (planeSum p Y ∷ []) (planeSum p Y ∷ planeSum p Cb ∷ planeSum p Cr ∷ [])
+abbrev pub planeSums : Picture → List ℕ
+planeSums p = cond (eqb (p .settings .format) 0) (planeSum p Y ∷ []) (planeSum p Y ∷ planeSum p Cb ∷ planeSum p Cr ∷ [])
 
 -- a number with its place, and the sums
 pub record Answer : Type 0 where
   pub verdict : Verdict
-  pub given : List ℕ
+  pub sums : List ℕ
 
 -- "Checks: the sheet's 1, 2, 3, 6 (the given planes only) and 10, in that order; a refusal gives no sum."
 unfoldable pub checksumAnswer : Picture → Answer
 checksumAnswer p =
     let v = firstOf (planesLedger p) in
-    record { verdict = v; given = cond (eqb (v .number) 0) (sums p) [] }
+    record { verdict = v; sums = cond (eqb (v .number) 0) (planeSums p) [] }
 
 -- the paper's number, place and sums, for every case of the enum
 abbrev pub answerOf : Checksums → Answer
-answerOf (Refused v) = record { verdict = numbered v; given = [] }
-answerOf (One y) = record { verdict = acceptance; given = y ∷ [] }
-answerOf (Three y cb cr) = record { verdict = acceptance; given = y ∷ cb ∷ cr ∷ [] }
+answerOf (Refused v) = record { verdict = numbered v; sums = [] }
+answerOf (One y) = record { verdict = acceptance; sums = y ∷ [] }
+answerOf (Three y cb cr) = record { verdict = acceptance; sums = y ∷ cb ∷ cr ∷ [] }

@@ -8,4 +8,4 @@ use Rattle.picture.specs.Ledger.{Verdict}
 use Rattle.picture.specs.Picture.{Picture}
 
 abbrev pub finishedAnswer : Verdict → Picture → Answer
-finishedAnswer v p = cond (eqb (v .number) 0) (checksumAnswer p) (record { verdict = v; given = [] })
+finishedAnswer v p = cond (eqb (v .number) 0) (checksumAnswer p) (record { verdict = v; sums = [] })

@@ -10,7 +10,7 @@ use lib.Dec.{eqb}
 use lib.ListN.{getD}
 use Rattle.bounded_moves.proofs.Pictures.{how-far}
 use Rattle.bounded_moves.specs.Pictures.{AcceptedSample}
-use Rattle.checksum.specs.Answer.{Answer, checksumAnswer, planeSum, sums}
+use Rattle.checksum.specs.Answer.{Answer, checksumAnswer, planeSum, planeSums}
 use Rattle.checksum.proofs.Same.{checksum-same}
 use Rattle.filter.specs.Finished.{finishedPlane, outputs}
 use Rattle.filter.proofs.Outputs.{finished-at, finished-long, outputs-finished}
@@ -61,15 +61,15 @@ module _ (p : Picture) (lent : Planes) (e : verdict p lent ≡ acceptance) where
       ap (λ (planes : Planes). at (planeOf planes c) (planeWidth p c) x y) (outputs-finished p lent e)
       ∙ finished-at p c x y hx hy)
 
-  all : sums q ≡ finishedSums p
+  all : planeSums q ≡ finishedSums p
   all = λ i.
       cond (eqb (p .settings .format) 0) (one Y i ∷ []) (one Y i ∷ one Cb i ∷ one Cr i ∷ [])
 
   -- the answer by the ledger's
   abbrev told : Verdict → List ℕ → Answer
-  told v l = record { verdict = v; given = cond (eqb (v .number) 0) l [] }
+  told v l = record { verdict = v; sums = cond (eqb (v .number) 0) l [] }
 
-  answer : checksumAnswer q ≡ record { verdict = acceptance; given = finishedSums p }
+  answer : checksumAnswer q ≡ record { verdict = acceptance; sums = finishedSums p }
   unfolding checksumAnswer
   answer = λ i. told (checked i) (all i)
 

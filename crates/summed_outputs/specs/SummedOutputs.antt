@@ -27,4 +27,4 @@ finishedSums p =
 -- of every accepted picture, what the stage leaves passes the checks of the checksum, and its sums are those
 abbrev pub OutputsSummed : Type 0
 OutputsSummed = (p : Picture) (lent : Planes) → verdict p lent ≡ acceptance
-    → checksumAnswer (withPlanes (outputs p lent) p) ≡ record { verdict = acceptance; given = finishedSums p }
+    → checksumAnswer (withPlanes (outputs p lent) p) ≡ record { verdict = acceptance; sums = finishedSums p }

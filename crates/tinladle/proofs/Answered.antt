@@ -8,10 +8,10 @@ use Rattle.picture.specs.Picture.{Picture}
 use Rattle.tinladle.specs.Sums.{Summed}
 
 pub summed-by : (p : Picture) (lent : List ℕ) {a : Answer} → a ≡ checksumAnswer p → {number place : ℕ} {left : List ℕ}
-    → number ≡ a .verdict .number → place ≡ a .verdict .place → left ≡ a .given ++ drop (length (a .given)) lent
+    → number ≡ a .verdict .number → place ≡ a .verdict .place → left ≡ a .sums ++ drop (length (a .sums)) lent
     → Summed p lent number place left
 summed-by p lent e number place left = record {
   number-is = number ∙ ap (λ (a : Answer). a .verdict .number) e;
   place-is = place ∙ ap (λ (a : Answer). a .verdict .place) e;
-  left-is = left ∙ ap (λ (a : Answer). a .given ++ drop (length (a .given)) lent) e;
+  left-is = left ∙ ap (λ (a : Answer). a .sums ++ drop (length (a .sums)) lent) e;
 }

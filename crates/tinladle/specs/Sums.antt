@@ -20,4 +20,4 @@ passedPlanes width height format luma-depth chroma-depth =
 pub record Summed (p : Picture) (lent : List ℕ) (number place : ℕ) (left : List ℕ) : Type 0 where
   pub number-is : number ≡ checksumAnswer p .verdict .number
   pub place-is : place ≡ checksumAnswer p .verdict .place
-  pub left-is : left ≡ checksumAnswer p .given ++ drop (length (checksumAnswer p .given)) lent
+  pub left-is : left ≡ checksumAnswer p .sums ++ drop (length (checksumAnswer p .sums)) lent
