@@ -10,6 +10,7 @@ pub use lengths::bad_lengths;
 pub use lengths::bad_lent;
 pub use lengths::bad_planes;
 pub use settings::bad_ctb;
+pub use settings::bad_depth;
 pub use settings::bad_depths;
 pub use settings::bad_format;
 pub use settings::bad_offsets;

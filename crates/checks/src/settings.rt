@@ -2,7 +2,7 @@
 use picture::Settings;
 ghost use mathlib.Core.Path.{_≡_};
 ghost use mathlib.Core.List.{_++_};
-ghost use Rattle.picture.specs.Causes.{badSize, badFormat, badDepths, badCtb, badOffset};
+ghost use Rattle.picture.specs.Causes.{badSize, badFormat, badDepth, badDepths, badCtb, badOffset};
 ghost use Rattle.picture.specs.Given.{settingsOf};
 ghost use Rattle.picture.specs.Ledger.{anyOf};
 
@@ -27,13 +27,18 @@ pub fn bad_format(settings: Settings) -> bool
     3 < settings.chroma_format
 }
 
+// A depth outside 8 to 16.
+pub fn bad_depth(depth: u32) -> bool
+    ensures { λ r. ⌜ r ≡ anyOf (badDepth depth) ⌝ }
+{
+    (depth < 8) | (16 < depth)
+}
+
 // 3. A depth is outside 8 to 16, in every format.
 pub fn bad_depths(settings: Settings) -> bool
     ensures { λ r. ⌜ r ≡ anyOf (badDepths (settingsOf settings)) ⌝ }
 {
-    let luma = settings.luma_depth;
-    let chroma = settings.chroma_depth;
-    (luma < 8) | (16 < luma) | (chroma < 8) | (16 < chroma)
+    bad_depth(settings.luma_depth) | bad_depth(settings.chroma_depth)
 }
 
 // 4. The log2 of the CTB size is outside 4 to 6.

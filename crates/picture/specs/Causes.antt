@@ -28,9 +28,11 @@ abbrev pub cause2 : Settings → Cause
 cause2 t = once (badFormat t)
 
 -- 3. "a depth outside 8 to 16 (both are checked in every format)"
+abbrev pub badDepth : ℕ → List Bool
+badDepth depth = ltb depth 8 ∷ ltb 16 depth ∷ []
+
 abbrev pub badDepths : Settings → List Bool
-badDepths t =
-    ltb (t .luma-depth) 8 ∷ ltb 16 (t .luma-depth) ∷ ltb (t .chroma-depth) 8 ∷ ltb 16 (t .chroma-depth) ∷ []
+badDepths t = badDepth (t .luma-depth) ++ badDepth (t .chroma-depth)
 
 abbrev pub cause3 : Settings → Cause
 cause3 t = once (badDepths t)
