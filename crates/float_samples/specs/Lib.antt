@@ -1,0 +1,4 @@
+pub mod Found
+pub mod Fraction
+pub mod OneToOne
+pub mod Sample
