@@ -1,2 +1,2 @@
-mod Answers
+pub mod Answers
 pub mod Refusals

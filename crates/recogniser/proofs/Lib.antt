@@ -1,0 +1,3 @@
+pub mod Answers
+mod Inside
+pub mod RoundTrip

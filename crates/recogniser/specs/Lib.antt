@@ -1,0 +1,3 @@
+pub mod Pixel
+pub mod RoundTrip
+pub mod WayBack
