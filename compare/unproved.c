@@ -46,3 +46,23 @@ uint32_t tinladle_checksum(
     struct Slice in[] = { { y, y_len }, { cb, cb_len }, { cr, cr_len } };
     return unproved_checksum(width, height, chroma_format, luma_depth, chroma_depth, &in[0], &in[1], &in[2], sum_y, sum_cb, sum_cr, place);
 }
+
+uint32_t unproved_pixel(
+    uint32_t width, uint32_t height, uint32_t chroma_format, uint32_t luma_depth, uint32_t chroma_depth, const struct Slice *y,
+    const struct Slice *cb, const struct Slice *cr, uint32_t column, uint32_t row, float *luma, float *cb_part, float *cr_part,
+    uint64_t *place);
+
+uint32_t tinladle_pixel(
+    uint32_t width, uint32_t height, uint32_t chroma_format, uint32_t luma_depth, uint32_t chroma_depth,
+    const uint16_t *y, size_t y_len, const uint16_t *cb, size_t cb_len, const uint16_t *cr, size_t cr_len,
+    uint32_t column, uint32_t row, float *luma, float *cb_part, float *cr_part, uint64_t *place) {
+    struct Slice in[] = { { y, y_len }, { cb, cb_len }, { cr, cr_len } };
+    return unproved_pixel(width, height, chroma_format, luma_depth, chroma_depth, &in[0], &in[1], &in[2], column, row, luma, cb_part,
+        cr_part, place);
+}
+
+uint32_t unproved_sample(uint32_t depth, bool chroma, float value, uint16_t *sample, uint64_t *place);
+
+uint32_t tinladle_sample(uint32_t depth, bool chroma, float value, uint16_t *sample, uint64_t *place) {
+    return unproved_sample(depth, chroma, value, sample, place);
+}

@@ -31,6 +31,10 @@ PROGRAM = """fn main() {
     let mut sum_y: u32 = 0;
     let mut sum_cb: u32 = 0;
     let mut sum_cr: u32 = 0;
+    let mut luma: f32 = 0.0;
+    let mut cb_part: f32 = 0.0;
+    let mut cr_part: f32 = 0.0;
+    let mut sample: u16 = 0;
     let n = &numbers[..];
     let b = &bytes[..];
     let number = tinladle::tinladle_deblock(
@@ -40,6 +44,10 @@ PROGRAM = """fn main() {
     let summed = tinladle::tinladle_checksum(
         0, 0, 0, 0, 0, n, n, n, &mut sum_y, &mut sum_cb, &mut sum_cr, &mut place,
     );
+    let pixel = tinladle::tinladle_pixel(
+        0, 0, 0, 0, 0, n, n, n, 0, 0, &mut luma, &mut cb_part, &mut cr_part, &mut place,
+    );
+    let recovered = tinladle::tinladle_sample(8, true, 0.0, &mut sample, &mut place);
 }
 """
 

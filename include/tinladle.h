@@ -176,6 +176,59 @@ uint32_t tinladle_checksum(
     const uint16_t *y, size_t y_len, const uint16_t *cb, size_t cb_len, const uint16_t *cr, size_t cr_len,
     uint32_t *sum_y, uint32_t *sum_cb, uint32_t *sum_cr, uint64_t *place);
 
+/* One pixel of a picture's finished planes as 32-bit floats (IEEE 754 binary32), for a recogniser. The part of luma is
+ *
+ *   sample / 2^luma_depth,                                              0 to less than 1,
+ *
+ * of the luma sample at the column and the row. In formats 1 to 3 the parts of Cb and of Cr are
+ *
+ *   (sample - 2^(chroma_depth - 1)) / 2^chroma_depth,                   -0.5 to less than 0.5,
+ *
+ * of the sample under the pixel: its column and row are the pixel's, each divided by the format's scale that way (2 or
+ * 1) and rounded down. Each float is exactly that fraction, at every depth; the middle sample of chroma gives +0.0.
+ *
+ *   width, height, chroma_format, luma_depth, chroma_depth, y, cb, cr   as for tinladle_checksum
+ *   column, row               the pixel, from 0 on, in luma samples
+ *   luma, cb_part, cr_part    where the parts are stored; in format 0 that of luma alone
+ *   place                     where the place of the answer is stored, always
+ *
+ * Returned is 0, and the parts are stored; or the first of these causes in this order, and nothing but *place is
+ * written:
+ *
+ *   1, 2, 3, 6, 10            as for tinladle_checksum, with their places
+ *   14                        the pixel lies outside the picture         place 0
+ *
+ * Every call looks at every sample of the planes, for cause 10, so its cost is that of the checks.
+ *
+ * What a caller owes is as above. luma, cb_part and cr_part are never null, in format 0 neither, and lie apart from one
+ * another, from *place and from the planes. What they hold before the call may be anything, a NaN too.
+ */
+uint32_t tinladle_pixel(
+    uint32_t width, uint32_t height, uint32_t chroma_format, uint32_t luma_depth, uint32_t chroma_depth,
+    const uint16_t *y, size_t y_len, const uint16_t *cb, size_t cb_len, const uint16_t *cr, size_t cr_len,
+    uint32_t column, uint32_t row, float *luma, float *cb_part, float *cr_part, uint64_t *place);
+
+/* The way back: the sample whose part the float is, bit for bit, told its depth and whether it is of chroma.
+ *
+ *   depth                     the depth of the samples, 8 to 16
+ *   chroma                    0 for a part of luma, 1 for one of Cb or Cr
+ *   value                     any float, a NaN or an infinity too
+ *   sample                    where the sample is stored
+ *   place                     where 0 is stored, always
+ *
+ * Returned is 0, and the sample is stored, from 0 to 2^depth - 1; or the first of these, and nothing but *place is
+ * written:
+ *
+ *   3   depth outside 8 to 16                                           place 0
+ *   15  a float that no sample of this depth gives                      place 0
+ *
+ * Of the floats exactly 2^depth are taken, one for each sample, and that sample is returned. Every other has 15: a NaN,
+ * the infinities, -0.0, what lies between two samples by however little, and what lies outside their range.
+ *
+ * sample and place are never null and lie apart; chroma is 0 or 1 in its byte, as every bool of C is.
+ */
+uint32_t tinladle_sample(uint32_t depth, bool chroma, float value, uint16_t *sample, uint64_t *place);
+
 #ifdef __cplusplus
 }
 #endif

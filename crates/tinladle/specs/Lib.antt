@@ -1,3 +1,4 @@
+pub mod Floats
 pub mod Lists
 pub mod Passed
 pub mod Sums
