@@ -2,7 +2,8 @@
  * stay as they were, and on a refusal the junk in the outputs too. The expected samples are document 01's figures: of
  * S1, a step from 100 to 104 at QP 37 and bS 2 becomes 100 101 101 102 103 103 104 104; K1 without a slice and the
  * farthest moves are worked out by hand. The refusals are the small inputs of its ledger, and a few more. The checksums
- * are document 02's figure, worked out by hand or summed here as H.265, Annex D, says. */
+ * are document 02's figure, worked out by hand or summed here as H.265, Annex D, says; the floats are put together here
+ * from sign, exponent and mantissa, and compared by their bits. */
 #include <stddef.h>
 #include <stdio.h>
 #include <stdlib.h>
@@ -115,21 +116,30 @@ static void remember_all(struct Picture *p) {
     for (int i = 0; i < BUFFERS; i++) remember(&p->lent[i]);
 }
 
+static uint64_t stored_place(struct Lent *place) {
+    uint64_t stored;
+    memcpy(&stored, at(place), sizeof stored);
+    return stored;
+}
+
 /* Looks at an answer and its place, and at all that no answer may change. */
 static void expect_answer(struct Picture *p, const char *name, uint32_t answer, uint32_t number, uint64_t place) {
-    uint64_t stored;
-    memcpy(&stored, at(&p->lent[PLACE]), sizeof stored);
-    printf("%s: number %u, place %llu\n", name, (unsigned)answer, (unsigned long long)stored);
     expect(answer == number, name, "the number");
-    expect(stored == place, name, "the place");
+    expect(stored_place(&p->lent[PLACE]) == place, name, "the place");
     for (int i = 0; i < BUFFERS; i++) expect(guarded(&p->lent[i]), name, "a guard was written");
     for (int i = 0; i < INPUTS; i++) expect(unchanged(&p->lent[i]), name, "an input was written");
+}
+
+static void tell(struct Picture *p, const char *name, uint32_t answer) {
+    unsigned long long place = stored_place(&p->lent[PLACE]);
+    printf("%s: number %u, place %llu\n", name, (unsigned)answer, place);
 }
 
 /* Runs the stage on a picture. What it left of an accepted one is the caller's to check. */
 static void run(struct Picture *p, const char *name, uint32_t number, uint64_t place) {
     remember_all(p);
     uint32_t answer = tinladle_deblock(SETTINGS(p), LISTS(p), OUTPUTS(p), at(&p->lent[PLACE]));
+    tell(p, name, answer);
     expect_answer(p, name, answer, number, place);
     if (answer != 0)
         for (int i = OUT_Y; i <= OUT_CR; i++) expect(unchanged(&p->lent[i]), name, "a refusal wrote an output plane");
@@ -438,10 +448,8 @@ static void convert(const char *name, const uint8_t *list, size_t count, size_t 
     memcpy(at(&cells), list, count);
     remember(&cells), remember(&out);
     uint32_t number = tinladle_convert_cells(lent(&cells), count, lent(&out), out_count, at(&place));
-    uint64_t stored;
-    memcpy(&stored, at(&place), sizeof stored);
     expect(number == (count == out_count ? 0 : 6), name, "the number");
-    expect(stored == 0, name, "the place");
+    expect(stored_place(&place) == 0, name, "the place");
     expect(guarded(&cells) && guarded(&out) && guarded(&place), name, "a guard was written");
     expect(unchanged(&cells), name, "the list was written");
     if (number != 0) expect(unchanged(&out), name, "a refusal wrote the output");
@@ -529,24 +537,61 @@ static void sums_of(struct Picture *p, uint32_t sums[3]) {
         sums[i] = plane_sum(samples(p, i), p->width / across[p->format], p->height / down[p->format], p->chroma_depth);
 }
 
-/* Calls the checksum on a picture's planes, with each sum between guards. `wanted` are the sums; in format 0 that of
- * luma alone is to be stored, on a refusal none, and what is not stored keeps its junk. */
-static void sum(struct Picture *p, const char *what, uint32_t number, uint64_t place, const uint32_t wanted[3]) {
+/* A pixel that is asked for; where there is none, the checksums are. */
+struct Pixel {
+    uint32_t column, row;
+};
+
+/* Calls the function that takes planes alone and stores three values of 32 bits. */
+static uint32_t ask(struct Picture *p, const struct Pixel *pixel, struct Lent values[3]) {
+    void *of_y = at(&values[0]), *of_cb = at(&values[1]), *of_cr = at(&values[2]), *place = at(&p->lent[PLACE]);
+    if (!pixel) return tinladle_checksum(SIZES(p), PLANES(p), of_y, of_cb, of_cr, place);
+    return tinladle_pixel(SIZES(p), PLANES(p), pixel->column, pixel->row, of_y, of_cb, of_cr, place);
+}
+
+/* What is expected of a call: number and place, and the bits of the values. In format 0 that of luma alone is to be
+ * stored, on a refusal none, and what is not stored keeps its junk. */
+struct Answer {
+    const char *name;
+    uint32_t number;
+    uint64_t place;
+    const uint32_t *values;
+};
+
+/* A call with each value between guards. */
+static uint32_t ask_over(struct Picture *p, const struct Pixel *pixel, const struct Answer *wanted, uint32_t junk) {
+    struct Lent values[3];
+    for (int i = 0; i < 3; i++) {
+        values[i] = lend(sizeof junk, 0);
+        memcpy(at(&values[i]), &junk, sizeof junk);
+        remember(&values[i]);
+    }
+    remember_all(p);
+    uint32_t answer = ask(p, pixel, values);
+    expect_answer(p, wanted->name, answer, wanted->number, wanted->place);
+    for (int i = 0; i < 3; i++) {
+        bool is_stored = wanted->number == 0 && (i == 0 || p->format != 0);
+        if (is_stored) expect(memcmp(at(&values[i]), &wanted->values[i], sizeof junk) == 0, wanted->name, "a value");
+        else expect(unchanged(&values[i]), wanted->name, "a value was stored");
+        expect(guarded(&values[i]), wanted->name, "a guard of a value was written");
+        give_back(&values[i]);
+    }
+    return answer;
+}
+
+/* What the values may hold before the call: a number, and NaNs that are quiet, signalling and negative. */
+static const uint32_t junk[] = { 0xA5A5A5A5, 0x7FC00000, 0x7FA00001, 0xFFFFFFFF };
+
+/* Over each, where the values are floats. */
+static uint32_t ask_over_junk(struct Picture *p, const struct Pixel *pixel, const struct Answer *wanted) {
+    for (size_t i = 1; pixel && i < sizeof junk / sizeof *junk; i++) ask_over(p, pixel, wanted, junk[i]);
+    return ask_over(p, pixel, wanted, junk[0]);
+}
+
+static void sum(struct Picture *p, const char *what, const uint32_t wanted[3]) {
     char name[100];
     snprintf(name, sizeof name, "checksum, %s", what);
-    struct Lent sums[3];
-    for (int i = 0; i < 3; i++) sums[i] = lend(sizeof *wanted, OUT_JUNK), remember(&sums[i]);
-    remember_all(p);
-    uint32_t answer = tinladle_checksum(
-        SIZES(p), PLANES(p), at(&sums[0]), at(&sums[1]), at(&sums[2]), at(&p->lent[PLACE]));
-    expect_answer(p, name, answer, number, place);
-    for (int i = 0; i < 3; i++) {
-        bool is_stored = number == 0 && (i == 0 || p->format != 0);
-        if (is_stored) expect(memcmp(at(&sums[i]), &wanted[i], sizeof *wanted) == 0, name, "a sum");
-        else expect(unchanged(&sums[i]), name, "a sum was stored");
-        expect(guarded(&sums[i]), name, "a guard of a sum was written");
-        give_back(&sums[i]);
-    }
+    tell(p, name, ask_over_junk(p, NULL, &(struct Answer) { name, 0, 0, wanted }));
 }
 
 /* Sizes, format and depths, and the sums of zeros where they are worked out by hand: the masks of 8 by 8 samples are 0
@@ -586,15 +631,15 @@ static struct Picture planes(const struct Summed *t) {
     return p;
 }
 
-enum { ZERO, MIXED, LARGEST, FILLS };
-static const char *fills[FILLS] = { "zeros", "of every bit", "at their largest" };
+enum { ZERO, MIXED, MIDDLE, LARGEST, FILLS };
+static const char *fills[FILLS] = { "zeros", "of every bit", "in the middle", "at their largest" };
 
 static void fill(struct Picture *p, int how) {
     for (int i = Y; i <= CR; i++) {
         uint32_t most = (1u << (i == Y ? p->luma_depth : p->chroma_depth)) - 1;
         for (size_t k = 0; k < p->lent[i].bytes / 2; k++) {
-            size_t mixed = (k + 7 * i) * 40503 & most;
-            samples(p, i)[k] = (uint16_t)(how == ZERO ? 0 : how == MIXED ? mixed : most);
+            const size_t values[FILLS] = { 0, (k + 7 * i) * 40503 & most, most / 2 + 1, most };
+            samples(p, i)[k] = (uint16_t)values[how];
         }
     }
 }
@@ -611,62 +656,69 @@ static void sum_cases(void) {
             sums_of(&p, sums);
             bool is_known = how == ZERO && t->by_hand[0] != 0;
             if (is_known) expect(memcmp(sums, t->by_hand, sizeof sums) == 0, name, "by hand");
-            sum(&p, name, 0, 0, sums);
+            sum(&p, name, sums);
         }
         done(&p);
     }
 }
 
-static void refused_sum(struct Picture *p, const char *name, uint32_t number, uint64_t place) {
-    sum(p, name, number, place, NULL);
+/* Planes of which neither checksums nor a pixel are told, inside or outside. */
+static void refused_planes(struct Picture *p, const char *what, uint32_t number, uint64_t place) {
+    static const struct Pixel inside = { 7, 7 }, outside = { 32, 16 }, *pixels[3] = { NULL, &inside, &outside };
+    static const char *functions[3] = { "checksum", "pixel inside", "pixel outside" };
+    for (int i = 0; i < 3; i++) {
+        char name[100];
+        snprintf(name, sizeof name, "%s, %s", functions[i], what);
+        tell(p, name, ask_over_junk(p, pixels[i], &(struct Answer) { name, number, place, NULL }));
+    }
     done(p);
 }
 
-static void refused_sum_settings(void) {
+static void refused_plane_settings(void) {
     for (size_t i = 0; i < sizeof bad_settings / sizeof *bad_settings; i++) {
         const struct Setting *t = &bad_settings[i];
-        if (t->number > 3) continue; /* the checksum takes no such setting */
+        if (t->number > 3) continue; /* no such setting is taken with planes alone */
         struct Picture p = accepted();
         memcpy((char *)&p + t->offset, &t->value, sizeof t->value);
-        refused_sum(&p, t->name, t->number, 0);
+        refused_planes(&p, t->name, t->number, 0);
     }
     struct Picture p = planes(&summed[1]);
     p.chroma_depth = 17;
-    refused_sum(&p, "3: chroma depth 17, no chroma", 3, 0);
+    refused_planes(&p, "3: chroma depth 17, no chroma", 3, 0);
 }
 
-static void refused_sum_lengths(void) {
+static void refused_plane_lengths(void) {
     static const char *names[3][2] = { { "6: y short", "6: y long" }, { "6: cb short", "6: cb long" },
         { "6: cr short", "6: cr long" } };
     for (int i = Y; i <= CR; i++)
         for (int is_long = 0; is_long < 2; is_long++) {
             struct Picture p = accepted();
             resize(&p, i, p.lent[i].bytes + (is_long ? 2 : -2), 0);
-            refused_sum(&p, names[i][is_long], 6, 0);
+            refused_planes(&p, names[i][is_long], 6, 0);
         }
     /* All three null. */
     struct Picture p = accepted();
     resize(&p, Y, 0, 0), resize(&p, CB, 0, 0), resize(&p, CR, 0, 0);
-    refused_sum(&p, "6: no sample", 6, 0);
+    refused_planes(&p, "6: no sample", 6, 0);
     for (int i = CB; i <= CR; i++) {
         p = planes(&summed[1]);
         resize(&p, i, 2, 0);
-        refused_sum(&p, i == CB ? "6: a Cb sample, no chroma" : "6: a Cr sample, no chroma", 6, 0);
+        refused_planes(&p, i == CB ? "6: a Cb sample, no chroma" : "6: a Cr sample, no chroma", 6, 0);
     }
 }
 
-static void refused_sum_samples(void) {
+static void refused_plane_samples(void) {
     struct Picture p = accepted();
     samples(&p, Y)[5] = 256;
-    refused_sum(&p, "10: Y sample 5 is 256", 10, 5);
+    refused_planes(&p, "10: Y sample 5 is 256", 10, 5);
     p = accepted();
     p.luma_depth = 9;
     samples(&p, Y)[5] = 511, samples(&p, CB)[3] = 256, samples(&p, CR)[0] = 256;
-    refused_sum(&p, "10: depths 9 and 8, Cb sample 3 is 256", 10, LUMA + 3);
+    refused_planes(&p, "10: depths 9 and 8, Cb sample 3 is 256", 10, LUMA + 3);
     p = accepted();
     p.chroma_depth = 10;
     samples(&p, CB)[3] = 1023, samples(&p, CR)[CHROMA - 1] = 1024;
-    refused_sum(&p, "10: depths 8 and 10, the last Cr sample is 1024", 10, LUMA + 2 * CHROMA - 1);
+    refused_planes(&p, "10: depths 8 and 10, the last Cr sample is 1024", 10, LUMA + 2 * CHROMA - 1);
 }
 
 /* Changes planes so that they are refused with this number. */
@@ -678,7 +730,7 @@ static void spoil(struct Picture *p, uint32_t number) {
     if (number == 10) samples(p, Y)[9] = 256;
 }
 
-static void refused_sums_in_order(void) {
+static void refused_planes_in_order(void) {
     static const uint32_t numbers[5] = { 1, 2, 3, 6, 10 };
     for (int i = 0; i < 5; i++)
         for (int j = i + 1; j < 5; j++) {
@@ -686,8 +738,122 @@ static void refused_sums_in_order(void) {
             spoil(&p, numbers[i]), spoil(&p, numbers[j]);
             char name[40];
             snprintf(name, sizeof name, "%u before %u", (unsigned)numbers[i], (unsigned)numbers[j]);
-            refused_sum(&p, name, numbers[i], 0);
+            refused_planes(&p, name, numbers[i], 0);
         }
+}
+
+/* The bits of n / 2^depth as a float, from sign, exponent and mantissa. */
+static uint32_t fraction(int32_t n, uint32_t depth) {
+    if (n == 0) return 0;
+    uint32_t size = (uint32_t)abs(n), exponent = 0;
+    while (size >> exponent > 1) exponent++;
+    return (n < 0) * 0x80000000u | (127 + exponent - depth) << 23 | (size << (23 - exponent) & 0x7FFFFF);
+}
+
+/* The bits of the float that a sample gives. */
+static uint32_t part(uint32_t depth, bool chroma, uint32_t sample) {
+    return fraction((int32_t)sample - (chroma ? 1 << (depth - 1) : 0), depth);
+}
+
+/* Asks for a pixel inside. */
+static void expect_pixel(struct Picture *p, const char *what, const struct Pixel *pixel) {
+    char name[100];
+    snprintf(name, sizeof name, "pixel %u, %u, %s", (unsigned)pixel->column, (unsigned)pixel->row, what);
+    uint32_t parts[3] = { part(p->luma_depth, false, samples(p, Y)[pixel->row * p->width + pixel->column]) };
+    for (int i = CB; p->format != 0 && i <= CR; i++) {
+        uint32_t column = pixel->column / across[p->format], row = pixel->row / down[p->format];
+        parts[i] = part(p->chroma_depth, true, samples(p, i)[row * (p->width / across[p->format]) + column]);
+    }
+    ask_over_junk(p, pixel, &(struct Answer) { name, 0, 0, parts });
+}
+
+/* Some pixels of each picture but the last, which is too large to be looked through so often. */
+static void pixel_cases(void) {
+    for (size_t i = 0; i < sizeof summed / sizeof *summed - 1; i++) {
+        const struct Summed *t = &summed[i];
+        const uint32_t columns[7] = { 0, 1, 2, 3, t->width / 2, t->width - 2, t->width - 1 };
+        const uint32_t rows[7] = { 0, 1, 2, 3, t->height / 2, t->height - 2, t->height - 1 };
+        struct Picture p = planes(t);
+        for (int how = ZERO; how < FILLS; how++) {
+            fill(&p, how);
+            for (int k = 0; k < 7 * 7; k++) expect_pixel(&p, t->name, &(struct Pixel) { columns[k % 7], rows[k / 7] });
+        }
+        printf("pixels, %s: looked at\n", t->name);
+        done(&p);
+    }
+}
+
+/* Pixels past each side of 32 by 16, in colour and in grey. */
+static void outside_cases(void) {
+    static const struct Pixel outside[] = {
+        { 32, 0 }, { 32, 15 }, { 0, 16 }, { 31, 16 }, { 32, 16 }, { 16, 31 }, { 511, 0 }, { 0, 1u << 27 },
+        { 1u << 31, 1u << 31 }, { UINT32_MAX, 0 }, { 0, UINT32_MAX }, { UINT32_MAX, UINT32_MAX },
+    };
+    for (int is_grey = 0; is_grey < 2; is_grey++) {
+        struct Picture p = accepted();
+        p.format = is_grey ? 0 : 1;
+        for (int i = CB; is_grey && i <= CR; i++) resize(&p, i, 0, 0);
+        for (size_t i = 0; i < sizeof outside / sizeof *outside; i++)
+            ask_over_junk(&p, &outside[i], &(struct Answer) { "14: a pixel outside", 14, 0, NULL });
+        expect_pixel(&p, "the last one", &(struct Pixel) { 31, 15 });
+        done(&p);
+    }
+    printf("14: pixels outside, in colour and in grey\n");
+}
+
+/* Asks for the sample of a float, by its bits; sample and place between guards. */
+static void back(uint32_t depth, bool chroma, uint32_t bits, uint32_t number, uint32_t wanted) {
+    char name[100];
+    snprintf(name, sizeof name, "sample of %08x, depth %u, chroma %d", (unsigned)bits, (unsigned)depth, chroma);
+    struct Lent sample = lend(sizeof(uint16_t), OUT_JUNK), place = lend(sizeof(uint64_t), OUT_JUNK);
+    float value;
+    memcpy(&value, &bits, sizeof value);
+    remember(&sample);
+    uint32_t answer = tinladle_sample(depth, chroma, value, at(&sample), at(&place));
+    expect(answer == number, name, "the number");
+    expect(stored_place(&place) == 0, name, "the place");
+    expect(guarded(&sample) && guarded(&place), name, "a guard was written");
+    if (number == 0) expect(*(uint16_t *)at(&sample) == wanted, name, "the sample");
+    else expect(unchanged(&sample), name, "a refusal wrote the sample");
+    give_back(&sample), give_back(&place);
+}
+
+/* Each sample's float, what is beside it by one bit, and the half above it. The float before 0.0 by its bits is a
+ * NaN. */
+static void back_cases(uint32_t depth, bool chroma) {
+    int32_t count = 1 << depth, middle = chroma ? count / 2 : 0;
+    for (int32_t sample = 0; sample < count; sample++) {
+        uint32_t bits = part(depth, chroma, (uint32_t)sample);
+        back(depth, chroma, bits, 0, (uint32_t)sample);
+        back(depth, chroma, bits + 1, 15, 0);
+        back(depth, chroma, bits - 1, 15, 0);
+        back(depth, chroma, fraction(2 * (sample - middle) + 1, depth + 1), 15, 0);
+    }
+    back(depth, chroma, fraction(-middle - 1, depth), 15, 0);
+    back(depth, chroma, fraction(count - middle, depth), 15, 0);
+}
+
+/* Zero with a sign, the infinities, NaNs of every kind, subnormals, the least and the largest normal floats, 0.1, 256,
+ * 1 and -1. */
+static const uint32_t never[] = {
+    0x80000000, 0x7F800000, 0xFF800000, 0x7FC00000, 0x7FC00001, 0x7FFFFFFF, 0x7F800001, 0x7FA00000, 0xFFC00000,
+    0xFF800001, 0xFFFFFFFF, 0x00000001, 0x007FFFFF, 0x80000001, 0x807FFFFF, 0x00800000, 0x80800000, 0x7F7FFFFF,
+    0xFF7FFFFF, 0x3DCCCCCD, 0x43800000, 0x3F800000, 0xBF800000,
+};
+
+static void way_back(void) {
+    static const uint32_t bad_depths[] = { 0, 1, 7, 17, 31, 32, 33, 1u << 31, UINT32_MAX };
+    for (int chroma = 0; chroma < 2; chroma++) {
+        for (uint32_t depth = 8; depth <= 16; depth++) {
+            back_cases(depth, chroma);
+            for (size_t i = 0; i < sizeof never / sizeof *never; i++) back(depth, chroma, never[i], 15, 0);
+        }
+        for (size_t i = 0; i < sizeof bad_depths / sizeof *bad_depths; i++) {
+            back(bad_depths[i], chroma, 0, 3, 0);
+            for (size_t j = 0; j < sizeof never / sizeof *never; j++) back(bad_depths[i], chroma, never[j], 3, 0);
+        }
+    }
+    printf("samples of floats, each sample at every depth and what no sample gives\n");
 }
 
 int main(void) {
@@ -707,10 +873,13 @@ int main(void) {
     converted_lengths();
     converted_picture();
     sum_cases();
-    refused_sum_settings();
-    refused_sum_lengths();
-    refused_sum_samples();
-    refused_sums_in_order();
+    refused_plane_settings();
+    refused_plane_lengths();
+    refused_plane_samples();
+    refused_planes_in_order();
+    pixel_cases();
+    outside_cases();
+    way_back();
     if (failures) return printf("%d differences\n", failures), 1;
     printf("ok\n");
     return 0;

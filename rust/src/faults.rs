@@ -1,4 +1,4 @@
-//! The words of a refusal after its cause: what of the picture is wrong at the place that the library named.
+//! The words of a refusal after its cause: what is wrong with what was given, at the place that the library named.
 //!
 //! Nothing is decided here. Were nothing wrong to be found, the words would be missing, and number and place would
 //! stand.
@@ -15,24 +15,42 @@ fn those<const N: usize>(faults: [(bool, String); N]) -> String {
     holding.join(", ")
 }
 
+fn bad_depth(kind: &str, depth: u32) -> (bool, String) {
+    (!(8..=16).contains(&depth), format!("{kind}depth {depth}"))
+}
+
 /// What is wrong with settings and planes, of the causes that they alone can have.
 pub(crate) fn of_planes(cause: Cause, place: u64, s: &Settings, planes: [&[u16]; 3]) -> String {
     let size = |n: u32| !(8..=Settings::LARGEST).contains(&n) || !n.is_multiple_of(8);
-    let depth = |n: u32| !(8..=16).contains(&n);
     match cause {
         Cause::Size => {
             those([(size(s.width), format!("width {}", s.width)), (size(s.height), format!("height {}", s.height))])
         }
         Cause::ChromaFormat => format!("format {}", s.chroma_format),
-        Cause::Depth => those([
-            (depth(s.luma_depth), format!("luma depth {}", s.luma_depth)),
-            (depth(s.chroma_depth), format!("chroma depth {}", s.chroma_depth)),
-        ]),
+        Cause::Depth => those([bad_depth("luma ", s.luma_depth), bad_depth("chroma ", s.chroma_depth)]),
         Cause::Length => Plane::ALL
             .into_iter()
             .find_map(|plane| plane_length(s, plane, "", planes[plane as usize].len()))
             .unwrap_or_default(),
         Cause::Sample => sample(s, planes, place),
+        _ => String::new(),
+    }
+}
+
+/// What is wrong with a pixel, where the planes are in order.
+pub(crate) fn of_pixel(s: &Settings, column: u32, row: u32) -> String {
+    those([
+        (column >= s.width, format!("column {column} of {}", s.width)),
+        (row >= s.height, format!("row {row} of {}", s.height)),
+    ])
+}
+
+/// What is wrong with a float or with its depth. The bits tell one NaN from another.
+pub(crate) fn of_float(cause: Cause, depth: u32, chroma: bool, value: f32) -> String {
+    let kind = if chroma { "chroma" } else { "luma" };
+    match cause {
+        Cause::Depth => those([bad_depth("", depth)]),
+        Cause::Float => format!("{value:?}, bits 0x{:08x}, in {kind} of depth {depth}", value.to_bits()),
         _ => String::new(),
     }
 }
@@ -54,6 +72,8 @@ pub(crate) fn detail(cause: Cause, place: u64, picture: &Picture<'_>, out_length
         Cause::Slice => slice(picture, place),
         Cause::TileStart => tile_start(picture, place),
         Cause::Cell => cell(picture, place),
+        // Of no picture.
+        Cause::Pixel | Cause::Float => String::new(),
     }
 }
 

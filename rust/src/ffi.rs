@@ -1,5 +1,5 @@
 //! The calls into the proved library, made safe by their signatures. The crate's unsafe code, without the tool's, is
-//! the three calls here, one of them in the macro, and, in library.rs, the declarations of what they call.
+//! the four calls here, two of them in macros, and, in library.rs, the declarations of what they call.
 
 #![allow(unsafe_code)]
 
@@ -63,6 +63,48 @@ of_a_picture! {
     fn tinladle_deblock(reads() writes(out_y: u16, out_cb: u16, out_cr: u16) stores());
 }
 
+/// The same over C functions that take planes alone. A row has what is a function's own: the values that it takes, and
+/// the type of the three that it stores.
+macro_rules! of_planes {
+    ($(
+        $(#[$note:meta])*
+        fn $name:ident(takes($($value:ident: $v:ty),*) stores($s:ty));
+    )*) => {$(
+        $(#[$note])*
+        pub(crate) fn $name(
+            s: &Settings,
+            [y, cb, cr]: [&[u16]; 3],
+            $($value: $v,)*
+            [of_y, of_cb, of_cr]: &mut [$s; 3],
+        ) -> (u32, u64) {
+            let mut place = 0;
+            // SAFETY: as above. Each plane's pointer is its slice's own, with its length. What is stored goes to three
+            // elements of one array that is borrowed as `&mut`: they overlap neither one another nor `place`, a local,
+            // nor any plane.
+            let number = unsafe {
+                library::$name(
+                    s.width, s.height, s.chroma_format, s.luma_depth, s.chroma_depth,
+                    y.as_ptr(), y.len(),
+                    cb.as_ptr(), cb.len(),
+                    cr.as_ptr(), cr.len(),
+                    $($value,)*
+                    of_y, of_cb, of_cr,
+                    &mut place,
+                )
+            };
+            (number, place)
+        }
+    )*};
+}
+
+of_planes! {
+    /// The checksums: on 0 they are stored, those of Cb and Cr only where the format has chroma; else nothing is.
+    fn tinladle_checksum(takes() stores(u32));
+
+    /// A pixel's parts: on 0 they are stored, those of Cb and Cr only where the format has chroma; else nothing is.
+    fn tinladle_pixel(takes(column: u32, row: u32) stores(f32));
+}
+
 /// The conversion of a cell list: on 0 `out` holds the converted list; on 6, where it is not as long, what it held.
 pub(crate) fn tinladle_convert_cells(cells: &[u8], out: &mut [u8]) -> (u32, u64) {
     let mut place = 0;
@@ -73,33 +115,12 @@ pub(crate) fn tinladle_convert_cells(cells: &[u8], out: &mut [u8]) -> (u32, u64)
     (number, place)
 }
 
-/// The checksums of three planes: on 0 `sums` holds them, those of Cb and Cr only where the format has chroma; else
-/// what it held.
-pub(crate) fn tinladle_checksum(s: &Settings, planes: [&[u16]; 3], sums: &mut [u32; 3]) -> (u32, u64) {
-    let [y, cb, cr] = planes;
-    let [sum_y, sum_cb, sum_cr] = sums;
+/// The sample that gives a float: on 0 `sample` holds it, else what it held.
+pub(crate) fn tinladle_sample(depth: u32, chroma: bool, value: f32, sample: &mut u16) -> (u32, u64) {
     let mut place = 0;
-    // SAFETY: as above. Each plane's pointer is its slice's own, with its length. The sums are three elements of one
-    // array that is borrowed as `&mut`: they overlap neither one another nor `place`, a local, nor any plane.
-    let number = unsafe {
-        library::tinladle_checksum(
-            s.width,
-            s.height,
-            s.chroma_format,
-            s.luma_depth,
-            s.chroma_depth,
-            y.as_ptr(),
-            y.len(),
-            cb.as_ptr(),
-            cb.len(),
-            cr.as_ptr(),
-            cr.len(),
-            sum_y,
-            sum_cb,
-            sum_cr,
-            &mut place,
-        )
-    };
+    // SAFETY: as above. `sample` is borrowed as `&mut`, so that it lies apart from `place`, a local; `chroma` is a Rust
+    // bool.
+    let number = unsafe { library::tinladle_sample(depth, chroma, value, sample, &mut place) };
     (number, place)
 }
 
@@ -121,27 +142,79 @@ mod tests {
         assert_eq!(out, [101, 0, 0, 0, 0, 0, 0, 0]);
     }
 
-    const JUNK: u32 = 0xA5A5_A5A5;
+    /// An answer, and what then stands where there was junk.
+    fn over<T: Copy>(junk: T, store: impl FnOnce(&mut [T; 3]) -> (u32, u64)) -> ((u32, u64), [T; 3]) {
+        let mut stored = [junk; 3];
+        (store(&mut stored), stored)
+    }
 
-    /// The answer, and what is then in the place of junk.
-    fn over_junk(settings: Settings, planes: [&[u16]; 3]) -> ((u32, u64), [u32; 3]) {
-        let mut sums = [JUNK; 3];
-        (tinladle_checksum(&settings, planes, &mut sums), sums)
+    /// Each refusal of planes alone, with number and place; then a colour and a grey picture of zeros.
+    fn each_answer(mut answer: impl FnMut(Settings, [&[u16]; 3], (u32, u64))) {
+        let colour = Settings::new(8, 8, ChromaFormat::Yuv420);
+        let grey = Settings::new(8, 8, ChromaFormat::Monochrome);
+        let (y, c, none) = (&[0; 64][..], &[0; 16][..], &[][..]);
+        answer(Settings { width: 12, ..colour }, [y, c, c], (1, 0));
+        answer(Settings { chroma_format: 4, ..colour }, [y, c, c], (2, 0));
+        answer(Settings { chroma_depth: 17, ..grey }, [y, none, none], (3, 0));
+        answer(colour, [y, c, y], (6, 0));
+        answer(grey, [&[256; 64], none, none], (10, 0));
+        answer(colour, [y, c, &[256; 16]], (10, 80));
+        answer(colour, [y, c, c], (0, 0));
+        answer(grey, [y, none, none], (0, 0));
     }
 
     #[test]
     fn only_the_sums_that_there_are_get_stored() {
-        let colour = Settings::new(8, 8, ChromaFormat::Yuv420);
-        let grey = Settings::new(8, 8, ChromaFormat::Monochrome);
-        let (y, c, none) = (&[0; 64][..], &[0; 16][..], &[][..]);
-        assert_eq!(over_junk(colour, [y, c, c]), ((0, 0), [0xE0, 0x18, 0x18]));
-        assert_eq!(over_junk(grey, [y, none, none]), ((0, 0), [0xE0, JUNK, JUNK]));
-        let refused = |number, place| ((number, place), [JUNK; 3]);
-        assert_eq!(over_junk(Settings { width: 12, ..colour }, [y, c, c]), refused(1, 0));
-        assert_eq!(over_junk(Settings { chroma_format: 4, ..colour }, [y, c, c]), refused(2, 0));
-        assert_eq!(over_junk(Settings { chroma_depth: 17, ..grey }, [y, none, none]), refused(3, 0));
-        assert_eq!(over_junk(colour, [y, c, y]), refused(6, 0));
-        assert_eq!(over_junk(grey, [&[256; 64], none, none]), refused(10, 0));
-        assert_eq!(over_junk(colour, [y, c, &[256; 16]]), refused(10, 80));
+        const JUNK: u32 = 0xA5A5_A5A5;
+        each_answer(|settings, planes, wanted| {
+            let (answer, sums) = over(JUNK, |sums| tinladle_checksum(&settings, planes, sums));
+            assert_eq!(answer, wanted);
+            let stored = match (answer.0, settings.chroma_format) {
+                (0, 0) => [0xE0, JUNK, JUNK],
+                (0, _) => [0xE0, 0x18, 0x18],
+                _ => [JUNK; 3],
+            };
+            assert_eq!(sums, stored, "{settings:?}");
+        });
+    }
+
+    /// What may stand where a part is stored: a number, and NaNs that are quiet, signalling and negative.
+    const HELD: [u32; 4] = [0xA5A5_A5A5, 0x7FC0_0000, 0x7FA0_0001, 0xFFFF_FFFF];
+
+    /// The same with floats, by their bits.
+    fn parts_over(junk: u32, settings: &Settings, planes: [&[u16]; 3], pixel: (u32, u32)) -> ((u32, u64), [u32; 3]) {
+        let ask = |parts: &mut [f32; 3]| tinladle_pixel(settings, planes, pixel.0, pixel.1, parts);
+        let (answer, parts) = over(f32::from_bits(junk), ask);
+        (answer, parts.map(f32::to_bits))
+    }
+
+    #[test]
+    fn only_the_parts_that_there_are_get_stored() {
+        const LEAST: u32 = 0xBF00_0000; // -0.5, of the chroma sample 0
+        for junk in HELD {
+            each_answer(|settings, planes, wanted| {
+                let stored = match (wanted.0, settings.chroma_format) {
+                    (0, 0) => [0, junk, junk],
+                    (0, _) => [0, LEAST, LEAST],
+                    _ => [junk; 3],
+                };
+                assert_eq!(parts_over(junk, &settings, planes, (7, 7)), (wanted, stored), "{settings:?}");
+                let outside = if wanted.0 == 0 { (14, 0) } else { wanted };
+                assert_eq!(parts_over(junk, &settings, planes, (7, 8)), (outside, [junk; 3]), "{settings:?}");
+            });
+        }
+    }
+
+    #[test]
+    fn only_a_sample_that_there_is_gets_stored() {
+        let over_junk = |depth, chroma, value| {
+            let mut sample = 0xA5A5;
+            (tinladle_sample(depth, chroma, value, &mut sample), sample)
+        };
+        assert_eq!(over_junk(8, false, 0.75), ((0, 0), 192));
+        assert_eq!(over_junk(8, true, 0.25), ((0, 0), 192));
+        assert_eq!(over_junk(8, true, 0.75), ((15, 0), 0xA5A5));
+        assert_eq!(over_junk(8, false, f32::NAN), ((15, 0), 0xA5A5));
+        assert_eq!(over_junk(7, false, 0.75), ((3, 0), 0xA5A5));
     }
 }

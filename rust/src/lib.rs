@@ -3,7 +3,8 @@
 //! [`deblock`] is a safe call of the proved C function `tinladle_deblock`: it answers any input with a filtered
 //! picture or with one of ten [refusals](Cause), and filters each tile as if it were a picture alone. No sample leaves
 //! its range or moves farther than [`Settings::move_bound`]; how far one did move, [`moves`] finds. [`checksum`] gives
-//! the picture checksums of Annex D, by which a decoded picture is held to its stream.
+//! the picture checksums of Annex D, by which a decoded picture is held to its stream. [`pixel`] gives a pixel of
+//! finished planes as 32-bit floats, for a recogniser, and [`sample`] finds the sample that gives a float.
 //!
 //! ```
 //! use tinladle::{Bs, Cell, Cells, ChromaFormat, Picture, PlanesBuf, Settings, Slice, deblock};
@@ -83,6 +84,7 @@ mod ffi;
 mod library;
 mod memory;
 mod picture;
+mod pixels;
 mod records;
 mod refusal;
 mod settings;
@@ -90,6 +92,7 @@ mod settings;
 pub use checksums::Checksums;
 pub use memory::OutOfMemory;
 pub use picture::{Picture, PictureBuf, Planes, PlanesBuf};
+pub use pixels::{Colour, Pixel};
 pub use records::{Bs, Cell, Cells, OutOfRange, Slice, Slices};
 pub use refusal::{Cause, Refusal};
 pub use settings::{ChromaFormat, Plane, Settings};
@@ -195,6 +198,73 @@ pub fn checksum(settings: &Settings, planes: [&[u16]; 3]) -> Result<Checksums, R
     let answer = ffi::tinladle_checksum(settings, planes, &mut sums);
     Refusal::or_accepted(answer, |cause, place| faults::of_planes(cause, place, settings, planes))?;
     let [y, cb, cr] = sums;
-    let monochrome = settings.chroma_format == ChromaFormat::Monochrome.number();
-    Ok(if monochrome { Checksums::One(y) } else { Checksums::Three { y, cb, cr } })
+    Ok(if settings.is_monochrome() { Checksums::One(y) } else { Checksums::Three { y, cb, cr } })
+}
+
+/// A pixel of three planes as 32-bit floats. A call of the proved C function `tinladle_pixel`.
+///
+/// The part of luma is the sample at the column and the row, over 2^depth. In a format with chroma the parts of Cb and
+/// Cr are of the sample under the pixel, whose column and row are the pixel's, each divided by the format's
+/// [scale](Settings::scale) and rounded down: the sample less 2^(depth - 1), over 2^depth. The depth is the plane's
+/// own. Each float is exactly that fraction; the middle sample of chroma gives 0.0.
+///
+/// The planes are taken as they are given, and of the settings those of [`checksum`] play a part, and no other. The
+/// causes of a refusal are those of [`checksum`] and after them [`Cause::Pixel`]. Every call looks at every sample of
+/// the planes, for [`Cause::Sample`].
+///
+/// ```
+/// use tinladle::{ChromaFormat, Colour, Pixel, PlanesBuf, Settings, pixel, sample};
+///
+/// // 8 by 8 in 4:2:0, of depth 8 in luma and 10 in chroma. The pixel in column 3, row 2 is over column 1, row 1.
+/// let settings = Settings { chroma_depth: 10, ..Settings::new(8, 8, ChromaFormat::Yuv420) };
+/// let mut finished = PlanesBuf::filled([64, 16, 16], 0);
+/// (finished.y[2 * 8 + 3], finished.cb[4 + 1], finished.cr[4 + 1]) = (200, 512 - 64, 512);
+/// let found = pixel(&settings, finished.samples(), 3, 2)?;
+/// assert_eq!(found, Pixel::Colour(Colour { luma: 200.0 / 256.0, cb: -64.0 / 1024.0, cr: 0.0 }));
+/// assert_eq!(sample(10, true, -64.0 / 1024.0)?, 512 - 64);
+///
+/// let grey = Settings::new(8, 8, ChromaFormat::Monochrome);
+/// assert_eq!(pixel(&grey, [&finished.y, &[], &[]], 3, 2)?, Pixel::Grey(0.78125));
+///
+/// let refusal = pixel(&grey, [&finished.y, &[], &[]], 8, 2).unwrap_err();
+/// assert_eq!((refusal.number(), refusal.place()), (14, 0));
+/// assert_eq!(refusal.to_string(), "refused 14: the pixel lies outside the picture: column 8 of 8");
+/// # Ok::<(), Box<dyn std::error::Error>>(())
+/// ```
+pub fn pixel(settings: &Settings, planes: [&[u16]; 3], column: u32, row: u32) -> Result<Pixel, Refusal> {
+    let mut parts = [0.0; 3];
+    let answer = ffi::tinladle_pixel(settings, planes, column, row, &mut parts);
+    Refusal::or_accepted(answer, |cause, place| match cause {
+        Cause::Pixel => faults::of_pixel(settings, column, row),
+        cause => faults::of_planes(cause, place, settings, planes),
+    })?;
+    let [luma, cb, cr] = parts;
+    Ok(if settings.is_monochrome() { Pixel::Grey(luma) } else { Pixel::Colour(Colour { luma, cb, cr }) })
+}
+
+/// The way back from [`pixel`]: the sample whose part the float is, bit for bit, told its depth and whether it is of
+/// chroma. A call of the proved C function `tinladle_sample`.
+///
+/// Of the floats exactly 2^depth are taken, one for each sample. The causes of a refusal are [`Cause::Depth`] and then
+/// [`Cause::Float`], which every other float has: a NaN, the infinities, -0.0, what lies between two samples by however
+/// little, and what lies outside their range.
+///
+/// ```
+/// use tinladle::sample;
+///
+/// assert_eq!(sample(8, false, 0.78125)?, 200);
+/// assert_eq!(sample(8, true, -0.0625)?, 112);
+/// assert_eq!(sample(8, true, 0.0)?, 128);
+///
+/// let refusal = sample(8, true, -0.0).unwrap_err();
+/// assert_eq!((refusal.number(), refusal.place()), (15, 0));
+/// let sentence = "refused 15: no sample gives the float: -0.0, bits 0x80000000, in chroma of depth 8";
+/// assert_eq!(refusal.to_string(), sentence);
+/// # Ok::<(), Box<dyn std::error::Error>>(())
+/// ```
+pub fn sample(depth: u32, chroma: bool, value: f32) -> Result<u16, Refusal> {
+    let mut sample = 0;
+    let answer = ffi::tinladle_sample(depth, chroma, value, &mut sample);
+    Refusal::or_accepted(answer, |cause, _| faults::of_float(cause, depth, chroma, value))?;
+    Ok(sample)
 }

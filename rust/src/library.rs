@@ -37,7 +37,30 @@ of_a_picture! {
     );
 }
 
-// What takes no whole picture.
+/// The same for functions that take planes alone, with the settings that say what they are.
+macro_rules! of_planes {
+    ($(fn $name:ident($($own:ident: $type:ty),* $(,)?);)*) => {
+        unsafe extern "C" {
+            $(
+                pub fn $name(
+                    width: u32, height: u32, chroma_format: u32, luma_depth: u32, chroma_depth: u32,
+                    y: *const u16, y_len: usize,
+                    cb: *const u16, cb_len: usize,
+                    cr: *const u16, cr_len: usize,
+                    $($own: $type,)*
+                    place: *mut u64,
+                ) -> u32;
+            )*
+        }
+    };
+}
+
+of_planes! {
+    fn tinladle_checksum(sum_y: *mut u32, sum_cb: *mut u32, sum_cr: *mut u32);
+    fn tinladle_pixel(column: u32, row: u32, luma: *mut f32, cb_part: *mut f32, cr_part: *mut f32);
+}
+
+// What takes neither.
 unsafe extern "C" {
     pub fn tinladle_convert_cells(
         cells: *const u8,
@@ -47,21 +70,5 @@ unsafe extern "C" {
         place: *mut u64,
     ) -> u32;
 
-    pub fn tinladle_checksum(
-        width: u32,
-        height: u32,
-        chroma_format: u32,
-        luma_depth: u32,
-        chroma_depth: u32,
-        y: *const u16,
-        y_len: usize,
-        cb: *const u16,
-        cb_len: usize,
-        cr: *const u16,
-        cr_len: usize,
-        sum_y: *mut u32,
-        sum_cb: *mut u32,
-        sum_cr: *mut u32,
-        place: *mut u64,
-    ) -> u32;
+    pub fn tinladle_sample(depth: u32, chroma: bool, value: f32, sample: *mut u16, place: *mut u64) -> u32;
 }

@@ -7,8 +7,9 @@ use std::fmt;
 /// compiler then asks for its words.
 macro_rules! causes {
     ($($(#[$note:meta])* $name:ident = $number:literal,)*) => {
-        /// The causes of a refusal, in the order in which the stage looks for them. Each has its own number.
-        /// [`checksum`](crate::checksum) looks for 1, 2, 3, 6 and 10 alone, in the same order.
+        /// The causes of a refusal, each with its own number, by which they are looked for in order.
+        /// [`deblock`](crate::deblock) looks for 1 to 10, [`checksum`](crate::checksum) for 1, 2, 3, 6 and 10,
+        /// [`pixel`](crate::pixel) for these and then 14, [`sample`](crate::sample) for 3 and then 15.
         #[derive(Clone, Copy, Debug, PartialEq, Eq, Hash, PartialOrd, Ord)]
         #[repr(u32)]
         #[non_exhaustive]
@@ -44,6 +45,10 @@ causes! {
     Cell = 9,
     /// 10: a given sample above its largest; the place is the first such, counted through Y, Cb, Cr.
     Sample = 10,
+    /// 14: the pixel lies outside the picture.
+    Pixel = 14,
+    /// 15: a float that no sample gives.
+    Float = 15,
 }
 
 impl Cause {
@@ -58,9 +63,10 @@ impl Cause {
     }
 }
 
-/// Why a picture was not filtered, or why its planes have no checksums. No output sample was written.
+/// Why a picture was not filtered, its planes have no checksums, a pixel no parts or a float no sample. No output
+/// sample was written.
 ///
-/// Number and place are the library's own answer. The detail is read off the picture at that place, for people.
+/// Number and place are the library's own answer. The detail is read off what was given, at that place, for people.
 #[derive(Clone, Debug, PartialEq, Eq)]
 pub struct Refusal {
     cause: Cause,
@@ -80,12 +86,12 @@ impl Refusal {
     }
 
     /// The cause's number; of [`deblock`](crate::deblock) 1 to 10, of [`checksum`](crate::checksum) one of 1, 2, 3, 6
-    /// and 10.
+    /// and 10, of [`pixel`](crate::pixel) one of these and 14, of [`sample`](crate::sample) 3 or 15.
     pub fn number(&self) -> u32 {
         self.cause.number()
     }
 
-    /// Where: a slice, a tile start, a cell or a sample; 0 for refusals 1 to 6.
+    /// Where: a slice, a tile start, a cell or a sample; 0 for refusals 1 to 6, 14 and 15.
     pub fn place(&self) -> u64 {
         self.place
     }
@@ -115,6 +121,8 @@ impl fmt::Display for Refusal {
             Cause::TileStart => write!(f, "tile start {} is out of rule", self.place),
             Cause::Cell => write!(f, "cell {} is out of rule", self.place),
             Cause::Sample => write!(f, "sample {} is above its largest", self.place),
+            Cause::Pixel => f.write_str("the pixel lies outside the picture"),
+            Cause::Float => f.write_str("no sample gives the float"),
         }?;
         if self.detail.is_empty() { Ok(()) } else { write!(f, ": {}", self.detail) }
     }

@@ -95,6 +95,10 @@ impl Settings {
         }
     }
 
+    pub(crate) fn is_monochrome(&self) -> bool {
+        self.chroma_format == ChromaFormat::Monochrome.number()
+    }
+
     /// By what the luma plane's columns and rows are divided in a plane; `None` where the format has no such plane.
     pub fn scale(&self, plane: Plane) -> Option<(u32, u32)> {
         match (plane, self.chroma_format) {

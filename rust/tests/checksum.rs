@@ -2,8 +2,9 @@
 
 mod common;
 
-use common::{FORMATS, annex_d, colour, flat, run, samples, small, step, with};
-use tinladle::{Cause, Cell, Checksums, ChromaFormat, PictureBuf, Plane, PlanesBuf, Refusal, Settings, checksum};
+use common::planes::{self, mixed};
+use common::{FORMATS, annex_d, colour, flat, of_depths, run, small, step, with};
+use tinladle::{Cell, Checksums, ChromaFormat, PictureBuf, Plane, PlanesBuf, Refusal, Settings, checksum};
 
 /// The checksums of a picture's planes as they stand, which must not be written.
 fn sums(picture: &PictureBuf) -> Result<Checksums, Refusal> {
@@ -17,10 +18,6 @@ fn sums(picture: &PictureBuf) -> Result<Checksums, Refusal> {
 fn filled(settings: Settings, value: u16) -> PictureBuf {
     let lengths = Plane::ALL.map(|plane| settings.plane_len(plane) as usize);
     PictureBuf { planes: PlanesBuf::filled(lengths, value), ..flat(settings, Cell::new(37).unwrap()) }
-}
-
-fn of_depths(settings: Settings, luma_depth: u32, chroma_depth: u32) -> Settings {
-    Settings { luma_depth, chroma_depth, ..settings }
 }
 
 fn three(y: u32, cb: u32, cr: u32) -> Checksums {
@@ -118,20 +115,6 @@ fn the_mask_has_both_bytes_of_column_and_row() {
     }
 }
 
-/// Samples of every bit of their depth, another in each plane.
-fn mixed(settings: Settings) -> PictureBuf {
-    let plane = |plane: Plane| {
-        let ((columns, rows), depth) = (settings.plane_size(plane), settings.depth(plane));
-        let sample = |x: usize, y: usize| {
-            let mixed = (x * 40_503) ^ (y * 30_011) ^ (x * y * 7919) ^ (plane as usize * 52_711);
-            (mixed % (1 << depth)) as u16
-        };
-        samples(columns as usize, rows as usize, sample)
-    };
-    let [y, cb, cr] = Plane::ALL.map(plane);
-    PictureBuf { planes: PlanesBuf { y, cb, cr }, ..flat(settings, Cell::new(37).unwrap()) }
-}
-
 #[test]
 fn any_size_and_depth_beside_annex_d() {
     let sizes = [
@@ -191,135 +174,45 @@ fn each_plane_that_there_is_has_its_sum() {
     assert_eq!(Plane::ALL.map(|plane| Checksums::One(4).plane(plane)), [Some(4), None, None]);
 }
 
-/// The planes are refused with this number, place and sentence.
-fn refused(picture: &PictureBuf, number: u32, place: u64, sentence: &str) {
-    let refusal = sums(picture).expect_err(sentence);
-    assert_eq!((refusal.number(), refusal.place(), refusal.cause().number()), (number, place, number), "{sentence}");
-    assert_eq!(refusal.to_string(), format!("refused {number}: {sentence}"));
-}
-
 #[test]
 fn refused_settings() {
-    type Case = (fn(&mut Settings), u32, &'static str);
-    let cases: [Case; 11] = [
-        (|s| s.width = 12, 1, "width or height is not allowed: width 12"),
-        (|s| s.width = 0, 1, "width or height is not allowed: width 0"),
-        (|s| s.height = 8200, 1, "width or height is not allowed: height 8200"),
-        (|s| (s.width, s.height) = (8193, 4), 1, "width or height is not allowed: width 8193, height 4"),
-        (|s| s.chroma_format = 4, 2, "the chroma format is above 3: format 4"),
-        (|s| s.chroma_format = u32::MAX, 2, "the chroma format is above 3: format 4294967295"),
-        (|s| s.luma_depth = 7, 3, "a depth is outside 8 to 16: luma depth 7"),
-        (|s| s.luma_depth = 17, 3, "a depth is outside 8 to 16: luma depth 17"),
-        (|s| s.chroma_depth = 7, 3, "a depth is outside 8 to 16: chroma depth 7"),
-        (|s| s.chroma_depth = 17, 3, "a depth is outside 8 to 16: chroma depth 17"),
-        (|s| (s.luma_depth, s.chroma_depth) = (0, 99), 3, "a depth is outside 8 to 16: luma depth 0, chroma depth 99"),
-    ];
-    for (change, number, sentence) in cases {
-        // Both depths are checked in a monochrome picture too.
-        for picture in [small(), colour()] {
-            refused(&with(picture, |p| change(&mut p.settings)), number, 0, sentence);
-        }
-    }
+    planes::hold(planes::bad_settings(), sums);
 }
 
 #[test]
 fn refused_lengths() {
-    let cases: [(PictureBuf, &str); 9] = [
-        (with(small(), |p| p.planes.y.truncate(63)), "Y has 63 samples, not 64"),
-        (with(small(), |p| p.planes.y.push(0)), "Y has 65 samples, not 64"),
-        (with(small(), |p| p.planes.cb.push(0)), "Cb has 1 sample, not 0"),
-        (with(small(), |p| p.planes.cr = vec![0; 16]), "Cr has 16 samples, not 0"),
-        (with(colour(), |p| p.planes.y.clear()), "Y has 0 samples, not 128"),
-        (with(colour(), |p| p.planes.cb.truncate(31)), "Cb has 31 samples, not 32"),
-        (with(colour(), |p| p.planes.cr.push(0)), "Cr has 33 samples, not 32"),
-        (with(colour(), |p| p.settings.chroma_format = 2), "Cb has 32 samples, not 64"),
-        (with(colour(), |p| p.settings.chroma_format = 0), "Cb has 32 samples, not 0"),
-    ];
-    for (picture, detail) in cases {
-        refused(&picture, 6, 0, &format!("a plane or list is not of its length: {detail}"));
-    }
+    planes::hold(planes::bad_lengths(), sums);
 }
 
 #[test]
 fn refused_samples() {
-    let deep = || with(colour(), |p| p.settings.chroma_depth = 10);
-    let cases: [(PictureBuf, u64, &str); 6] = [
-        (with(small(), |p| p.planes.y[5] = 256), 5, "Y sample 5 is 256, the largest is 255"),
-        (with(colour(), |p| p.planes.cb[0] = 256), 128, "Cb sample 0 is 256, the largest is 255"),
-        (with(colour(), |p| p.planes.cr[31] = 65535), 191, "Cr sample 31 is 65535, the largest is 255"),
-        (with(deep(), |p| p.planes.cr[7] = 1024), 167, "Cr sample 7 is 1024, the largest is 1023"),
-        (with(deep(), |p| p.planes.y[127] = 256), 127, "Y sample 127 is 256, the largest is 255"),
-        // The first of several.
-        (
-            with(deep(), |p| (p.planes.cr[0], p.planes.cb[9]) = (1024, 1024)),
-            137,
-            "Cb sample 9 is 1024, the largest is 1023",
-        ),
-    ];
-    for (picture, place, detail) in cases {
-        refused(&picture, 10, place, &format!("sample {place} is above its largest: {detail}"));
-    }
-    for (picture, largest) in [(colour(), 255), (deep(), 1023)] {
-        let picture = with(picture, |p| p.planes.cr.fill(largest));
+    planes::hold(planes::bad_samples(), sums);
+    for (depth, largest) in [(8, 255), (10, 1023)] {
+        let picture = with(colour(), |p| {
+            p.settings.chroma_depth = depth;
+            p.planes.cr.fill(largest);
+        });
         assert_eq!(sums(&picture).unwrap(), annex_d(&picture.settings, &picture.planes), "{largest} is in range");
     }
 }
 
-/// A change that makes planes refused, and the answer.
-type Fault = (fn(&mut PictureBuf), u32, u64);
-
-/// Each cause once, on 16 by 8, format 1.
-const FAULTS: [Fault; 5] = [
-    (|p| p.settings.height = 12, 1, 0),
-    (|p| p.settings.chroma_format = 4, 2, 0),
-    (|p| p.settings.chroma_depth = 17, 3, 0),
-    (|p| p.planes.cr.truncate(31), 6, 0),
-    (|p| p.planes.cb[9] = 256, 10, 137),
-];
-
 #[test]
 fn of_two_causes_the_first_counts() {
-    for (i, &(first, number, place)) in FAULTS.iter().enumerate() {
-        for &(second, ..) in &FAULTS[i..] {
-            let refusal = sums(&with(colour(), |p| (first(p), second(p)).0)).unwrap_err();
-            assert_eq!((refusal.number(), refusal.place()), (number, place));
-            assert!(!refusal.detail().is_empty());
-        }
-    }
-    let all = with(colour(), |p| FAULTS.iter().for_each(|fault| fault.0(p)));
-    assert_eq!(sums(&all).unwrap_err().cause(), Cause::Size);
+    planes::first_counts(sums);
 }
 
 #[test]
 fn what_else_a_picture_has_plays_no_part() {
     let wanted = sums(&colour()).unwrap();
     assert_eq!(wanted, annex_d(&colour().settings, &colour().planes));
-    let picture = with(colour(), |p| {
-        p.settings.log2_ctb = 99;
-        (p.settings.cb_qp_offset, p.settings.cr_qp_offset) = (i32::MIN, 13);
-        p.settings.pcm_loop_filter_disabled = true;
-        (p.cells, p.slices) = (vec![255; 3], vec![9; 7]);
-        (p.tile_columns, p.tile_rows) = (vec![], vec![7; 40]);
-    });
+    let picture = planes::with_odd_rest(colour());
     assert_eq!(run(&picture).unwrap_err().number(), 4, "the stage refuses it");
     assert_eq!(sums(&picture).unwrap(), wanted);
     // Nor do they stand in the way of a refusal.
-    refused(
-        &with(picture, |p| p.planes.y[0] = 999),
-        10,
-        0,
-        "sample 0 is above its largest: Y sample 0 is 999, the largest is 255",
-    );
+    planes::hold(vec![planes::one_too_large(picture)], sums);
 }
 
 #[test]
 fn any_settings_are_answered() {
-    // Numbers at both ends of their types, where a careless product or shift would panic.
-    let ends = [0, 1, 1 << 31, u32::MAX];
-    for (n, m) in ends.into_iter().flat_map(|n| ends.map(|m| (n, m))) {
-        let settings =
-            Settings { width: n, height: m, chroma_format: m, luma_depth: n, chroma_depth: m, ..small().settings };
-        let refusal = checksum(&settings, small().planes.samples()).unwrap_err();
-        assert_eq!((refusal.number(), refusal.place()), (1, 0), "{settings:?}");
-    }
+    planes::any_settings(|settings| checksum(settings, small().planes.samples()));
 }

@@ -5,9 +5,8 @@ mod common;
 use std::fs;
 use std::path::Path;
 
-use common::tool::{folder, old_style, refused, store, tinladle};
+use common::tool::{folder, old_style, refused, store, store_with_odd_rest, tinladle};
 use common::{FORMATS, annex_d, colour, flat, small, step, with};
-use tinladle::container::StoredPicture;
 use tinladle::{Cell, ChromaFormat, PictureBuf, Plane, PlanesBuf, Settings};
 
 /// 8 by 8 zeros of depth 8 in 4:2:0, and what document 02 says of them.
@@ -67,16 +66,7 @@ fn the_planes_are_taken_as_they_stand() {
 #[test]
 fn what_else_a_file_has_plays_no_part() {
     let at = folder("checksum_alone");
-    let mut odd = StoredPicture::new(zeros());
-    odd.picture.settings.log2_ctb = 99;
-    odd.picture.settings.cr_qp_offset = i32::MAX;
-    odd.picture.cells = vec![255; 9];
-    odd.picture.slices = vec![9; 7];
-    odd.picture.tile_columns.clear();
-    odd.output_lengths = [7, 0, 1];
-    let mut bytes = Vec::new();
-    odd.write(&mut bytes).unwrap();
-    fs::write(at.join("odd.pic"), bytes).unwrap();
+    store_with_odd_rest(&at.join("odd.pic"), zeros());
     let ran = tinladle(&at, &["checksum", "odd.pic"]);
     assert_eq!((ran.status, ran.out.as_str(), ran.err.as_str()), (0, ZEROS, ""));
     // What the stage refuses for its cells has the sums of its planes.

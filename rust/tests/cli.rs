@@ -100,13 +100,14 @@ fn bad_files_get_one_line() {
         ("missing.pic", "cannot be read: No such file or directory (os error 2)"),
     ];
     for (file, why) in cases {
-        let verbs: [&[&str]; 6] = [
+        let verbs: [&[&str]; 7] = [
             &["check", file],
             &["tiles", file],
             &["deblock", file, "out"],
             &["picture", file, "out.ppm"],
             &["convert", file, "out"],
             &["checksum", file],
+            &["pixel", file, "0", "0"],
         ];
         for words in verbs {
             let ran = tinladle(&at, words);

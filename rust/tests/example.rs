@@ -153,6 +153,23 @@ fn the_checksums_in_the_crates_readme_are_those_of_the_planes() {
 }
 
 #[test]
+fn the_pixel_in_the_crates_readme_is_that_of_the_planes() {
+    let at = with_the_example("example_pixel");
+    let [before, after] = FILES;
+    assert_eq!(tinladle(&at, &["deblock", before, after]).status, 0);
+    let ran = tinladle(&at, &["pixel", after, "65", "110"]);
+    assert_eq!((ran.status, ran.err.as_str()), (0, ""));
+    let shown = OF_THE_CRATE.contains(&format!("```text\n{}```\n", ran.out));
+    assert!(shown, "not in README.md as it is:\n{}", ran.out);
+    // 192 columns of luma in 4:2:0, at depth 8: over column 32, row 55 of chroma.
+    let finished = run(&shipped()).unwrap();
+    let samples = [finished.y[110 * 192 + 65], finished.cb[55 * 96 + 32], finished.cr[55 * 96 + 32]];
+    let fractions: Vec<&str> = ran.out.split_whitespace().skip(1).step_by(4).collect();
+    let numerators = [i32::from(samples[0]), i32::from(samples[1]) - 128, i32::from(samples[2]) - 128];
+    assert_eq!(fractions, numerators.map(|n| format!("{n}/256")));
+}
+
+#[test]
 fn the_farthest_moves_in_the_crates_readme_are_those_of_the_planes() {
     let picture = shipped();
     let finished = run(&picture).unwrap();

@@ -38,11 +38,16 @@ fn each_cause_has_the_number_of_its_row() {
         (8, Cause::TileStart),
         (9, Cause::Cell),
         (10, Cause::Sample),
+        // Of a pixel and of a float; no picture has them.
+        (14, Cause::Pixel),
+        (15, Cause::Float),
     ];
     for (number, cause) in rows {
         assert_eq!((cause.number(), Cause::of_number(number)), (number, Some(cause)));
     }
-    assert_eq!((Cause::of_number(0), Cause::of_number(11)), (None, None));
+    for number in [0, 11, 12, 13, 16, u32::MAX] {
+        assert_eq!(Cause::of_number(number), None, "{number}");
+    }
 }
 
 #[test]

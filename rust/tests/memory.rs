@@ -33,7 +33,7 @@ fn a_picture_that_is_too_large_is_told_by_its_name() {
     store_hole(&at.join("large.pic"), 4096 * 4096, 1024 * 1024 * 8);
     store(&at.join("small.pic"), s1());
     let why = "tinladle: large.pic: cannot be read: not enough memory for 33554432 bytes\n";
-    let verbs: [&[&str]; 7] = [
+    let verbs: [&[&str]; 8] = [
         &["check", "large.pic"],
         &["tiles", "large.pic"],
         &["deblock", "large.pic", "out.pic"],
@@ -41,6 +41,7 @@ fn a_picture_that_is_too_large_is_told_by_its_name() {
         &["diff", "small.pic", "large.pic"],
         &["convert", "large.pic", "out.pic"],
         &["checksum", "large.pic"],
+        &["pixel", "large.pic", "0", "0"],
     ];
     for words in verbs {
         let ran = limited(&at, 24, words);

@@ -26,7 +26,7 @@ fn with_streams(at: &Path, streams: &str, words: &[&str]) -> Ran {
     through_shell(at, &format!("exec \"$@\" {streams}"), words)
 }
 
-const VERBS: [&[&str]; 9] = [
+const VERBS: [&[&str]; 10] = [
     &["--help"],
     &["--version"],
     &["check", "a.pic", "a.pic"],
@@ -36,6 +36,7 @@ const VERBS: [&[&str]; 9] = [
     &["picture", "a.pic", "b.ppm"],
     &["convert", "a.pic", "c.pic"],
     &["checksum", "a.pic"],
+    &["pixel", "a.pic", "0", "0"],
 ];
 
 #[test]

@@ -38,14 +38,15 @@ fn each_line_of_the_help_is_what_the_verb_takes() {
     let lines: Vec<_> = help.lines().filter_map(line_of_help).collect();
     assert_eq!(
         lines.iter().map(|line| line.0).collect::<Vec<_>>(),
-        ["deblock", "deblock", "check", "diff", "picture", "tiles", "convert", "convert", "checksum"]
+        ["deblock", "deblock", "check", "diff", "picture", "tiles", "convert", "convert", "checksum", "pixel"]
     );
-    // The forms with --to have an option and its value among the words; the others have files alone.
+    // The forms with --to have an option and its value among the words; the others have files and numbers alone.
     for (verb, words) in lines.into_iter().filter(|line| line.1[0] != "--to") {
         let (count, more) = (words.len(), words.iter().any(|word| word.ends_with("...")));
         for given in 0..5 {
-            let files = ["none.ppm", "none.ppm", "none.ppm", "none.ppm"];
-            let ran = tinladle(&at, &[&[verb][..], &files[..given]].concat());
+            let named = words.iter().map(|word| if ["COLUMN", "ROW"].contains(word) { "0" } else { "none.ppm" });
+            let given_words: Vec<&str> = named.chain(["none.ppm"; 4]).take(given).collect();
+            let ran = tinladle(&at, &[&[verb][..], &given_words].concat());
             let usage = ran.err.contains("--help lists the commands");
             assert_eq!(
                 (ran.status, usage),
@@ -88,6 +89,24 @@ const BAD: &[(&[&str], &str)] = &[
     (&["checksum"], "checksum takes IN..., and nothing was given"),
     (&["checksum", "a", "--to", "b"], "checksum takes no --to"),
     (&["checksums", "a"], "unknown command checksums"),
+    (&["pixel"], "pixel takes IN COLUMN ROW, and nothing was given"),
+    (&["pixel", "a", "1"], "pixel takes IN COLUMN ROW, and 2 arguments were given"),
+    (&["pixel", "a", "1", "2", "3"], "pixel takes IN COLUMN ROW, and 4 arguments were given"),
+    (&["pixel", "a", "x", "2"], "COLUMN x: not a number from 0 to 4294967295"),
+    (&["pixel", "a", "1", "2x"], "ROW 2x: not a number from 0 to 4294967295"),
+    (&["pixel", "a", "x", "y"], "COLUMN x: not a number from 0 to 4294967295"),
+    (&["pixel", "1", "2", "a"], "ROW a: not a number from 0 to 4294967295"),
+    (&["pixel", "a", "", "2"], "COLUMN : not a number from 0 to 4294967295"),
+    (&["pixel", "a", "1", " 2"], "ROW  2: not a number from 0 to 4294967295"),
+    (&["pixel", "a", "+1", "2"], "COLUMN +1: not a number from 0 to 4294967295"),
+    (&["pixel", "a", "1.0", "2"], "COLUMN 1.0: not a number from 0 to 4294967295"),
+    (&["pixel", "a", "0x1", "2"], "COLUMN 0x1: not a number from 0 to 4294967295"),
+    (&["pixel", "a", "\u{661}", "2"], "COLUMN \u{661}: not a number from 0 to 4294967295"),
+    (&["pixel", "a", "1", "4294967296"], "ROW 4294967296: not a number from 0 to 4294967295"),
+    (&["pixel", "a", "-1", "2"], "unknown option -1"),
+    (&["pixel", "a", "1", "--", "-2"], "ROW -2: not a number from 0 to 4294967295"),
+    (&["pixel", "a", "1", "2", "--jobs", "2"], "pixel takes no --jobs"),
+    (&["pixel", "a", "1", "2", "--to", "b"], "pixel takes no --to"),
     (&["deblock", "--to"], "--to needs a folder"),
     (&["deblock", "--to=", "a"], "--to needs a folder"),
     (&["deblock", "--to", "b", "--to", "c", "a"], "--to is given twice"),

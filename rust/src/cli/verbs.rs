@@ -1,7 +1,7 @@
 //! The verbs: a row for each form of each. The help, the check of the arguments and the call come from these rows, so
 //! that a new verb is a row here and a function in commands/.
 
-use super::commands::{check, checksum, convert, deblock, diff, picture, tiles};
+use super::commands::{check, checksum, convert, deblock, diff, picture, pixel, tiles};
 use super::options::{JOBS, Opt, TO};
 use super::words::Words;
 use crate::counted::counted;
@@ -14,7 +14,8 @@ pub struct Verb {
     pub name: &'static str,
     /// The option that makes it this form.
     pub needs: Option<&'static Opt>,
-    /// Its arguments, a word each; where the last ends in `...`, one or more of it.
+    /// Its arguments, a word each; where the last ends in `...`, one or more of it. Those of `NUMBERS` are numbers, the
+    /// others files.
     pub arguments: &'static str,
     /// The options that it may have besides.
     pub takes: &'static [&'static Opt],
@@ -100,7 +101,20 @@ pub static VERBS: &[Verb] = &[
                by plane and file",
         run: checksum::run,
     },
+    Verb {
+        name: "pixel",
+        needs: None,
+        arguments: "IN COLUMN ROW",
+        takes: &[],
+        help: "a pixel of the planes as they stand, as 32-bit floats: one line\n\
+               for each of luma, cb and cr, or for luma alone, with a fraction\n\
+               over 2^depth, the float and its bits, eight hex digits",
+        run: pixel::run,
+    },
 ];
+
+/// The arguments that are numbers.
+const NUMBERS: [&str; 2] = ["COLUMN", "ROW"];
 
 impl Verb {
     /// What follows the verb, as the help shows it.
@@ -124,6 +138,14 @@ impl Verb {
         let named = self.arguments.split(' ').count();
         if self.arguments.ends_with("...") { count >= named } else { count == named }
     }
+
+    /// Itself, where each argument that is to be a number is one.
+    fn with_numbers(&self, words: &Words) -> Result<&Self, String> {
+        for (at, name) in self.arguments.split(' ').enumerate().filter(|(_, name)| NUMBERS.contains(name)) {
+            words.number(at).map_err(|why| format!("{name} {why}"))?;
+        }
+        Ok(self)
+    }
 }
 
 /// The form of a verb that the words mean, or one line that says what is wrong with them.
@@ -135,7 +157,7 @@ pub fn meant_by(words: &Words) -> Result<&'static Verb, String> {
         return Err(format!("{} takes no {}", first.name, option.name));
     }
     match forms.iter().find(|form| form.is_meant_by(words) && form.allows(words.arguments.len())) {
-        Some(form) => Ok(form),
+        Some(form) => form.with_numbers(words),
         None => {
             let known: Vec<String> = forms.iter().map(|form| form.form()).collect();
             let given = match words.arguments.len() {

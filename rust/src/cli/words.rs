@@ -77,6 +77,15 @@ impl Words {
         std::array::from_fn(|i| Path::new(&self.arguments[i]))
     }
 
+    /// The argument at a place as a number, or words that say that it is none.
+    pub fn number(&self, at: usize) -> Result<u32, String> {
+        let word = self.arguments[at].as_os_str();
+        // Parsing alone would take a sign.
+        let digits = word.to_str().filter(|text| text.bytes().all(|byte| byte.is_ascii_digit()));
+        let number = digits.and_then(|digits| digits.parse().ok());
+        number.ok_or_else(|| format!("{}: not a number from 0 to {}", word.display(), u32::MAX))
+    }
+
     /// All arguments as files.
     pub fn all_files(&self) -> Vec<&Path> {
         self.arguments.iter().map(Path::new).collect()

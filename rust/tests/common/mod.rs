@@ -2,6 +2,7 @@
 
 #![allow(dead_code)]
 
+pub mod planes;
 pub mod stored;
 pub mod tool;
 
@@ -42,6 +43,11 @@ pub fn small() -> PictureBuf {
 /// 16 by 8, format 1: 128, 32 and 32 samples, 8 cells.
 pub fn colour() -> PictureBuf {
     flat(Settings::new(16, 8, ChromaFormat::Yuv420), Cell::new(37).unwrap())
+}
+
+/// Settings with these depths.
+pub fn of_depths(settings: Settings, luma_depth: u32, chroma_depth: u32) -> Settings {
+    Settings { luma_depth, chroma_depth, ..settings }
 }
 
 /// A picture, changed.
@@ -119,4 +125,26 @@ pub fn annex_d(s: &Settings, planes: &PlanesBuf) -> Checksums {
         1 | 2 => Checksums::Three { y, cb: chroma(&planes.cb, 2), cr: chroma(&planes.cr, 2) },
         _ => Checksums::Three { y, cb: chroma(&planes.cb, 1), cr: chroma(&planes.cr, 1) },
     }
+}
+
+/// The bits of n / 2^depth as a 32-bit float, put together from sign, exponent and mantissa.
+pub fn fraction_bits(n: i32, depth: u32) -> u32 {
+    if n == 0 {
+        return 0;
+    }
+    let size = n.unsigned_abs();
+    let exponent = size.ilog2();
+    let mantissa = (size << (23 - exponent)) & 0x7F_FFFF;
+    (u32::from(n < 0) << 31) | ((127 + exponent - depth) << 23) | mantissa
+}
+
+/// The bits of the float that a sample gives, as document 02's C-22 says.
+pub fn part_bits(depth: u32, chroma: bool, sample: u16) -> u32 {
+    let middle = if chroma { 1 << (depth - 1) } else { 0 };
+    fraction_bits(i32::from(sample) - middle, depth)
+}
+
+/// Every sample of a depth.
+pub fn every_sample(depth: u32) -> impl Iterator<Item = u16> {
+    (0..1_u32 << depth).map(|sample| sample as u16)
 }

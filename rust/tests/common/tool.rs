@@ -5,6 +5,7 @@ use std::fs;
 use std::path::{Path, PathBuf};
 use std::process::{Command, Output};
 
+use super::planes::with_odd_rest;
 use super::{edges, flat, samples, small};
 use tinladle::container::StoredPicture;
 use tinladle::{ChromaFormat, PictureBuf, PlanesBuf, Settings};
@@ -19,10 +20,19 @@ pub fn folder(name: &str) -> PathBuf {
     path
 }
 
-pub fn store(path: &Path, picture: PictureBuf) {
+fn write(path: &Path, stored: &StoredPicture) {
     let mut bytes = Vec::new();
-    StoredPicture::new(picture).write(&mut bytes).unwrap();
+    stored.write(&mut bytes).unwrap();
     fs::write(path, bytes).unwrap();
+}
+
+pub fn store(path: &Path, picture: PictureBuf) {
+    write(path, &StoredPicture::new(picture));
+}
+
+/// A file in which all is odd but size, format, depths and planes.
+pub fn store_with_odd_rest(path: &Path, picture: PictureBuf) {
+    write(path, &StoredPicture { output_lengths: [7, 0, 1], ..StoredPicture::new(with_odd_rest(picture)) });
 }
 
 pub fn load(path: &Path) -> PictureBuf {

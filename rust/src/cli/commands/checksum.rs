@@ -2,11 +2,11 @@
 
 use std::path::Path;
 
-use super::load;
+use super::{load, refused_aside};
 use crate::cli::progress::Progress;
 use crate::cli::verbs::Answer;
 use crate::cli::words::Words;
-use crate::cli::work::{Failure, Outcome, each};
+use crate::cli::work::{Outcome, each};
 use tinladle::Plane;
 
 /// A line for each plane: its sum and, where it is to be told apart from those of other files, plane and file.
@@ -14,9 +14,8 @@ fn one(input: &Path, told_apart: bool, progress: &Progress) -> Outcome {
     let stored = load(input, progress)?;
     progress.doing(format!("checksums of {}", input.display()));
     let picture = stored.picture.picture();
-    // Standard output is for sums alone, so that a program can read it.
-    let refused = |refusal| Failure::RefusedAside(format!("{}: {refusal}", input.display()));
-    let sums = tinladle::checksum(&picture.settings, picture.samples()).map_err(refused)?;
+    let sums =
+        tinladle::checksum(&picture.settings, picture.samples()).map_err(|refusal| refused_aside(input, refusal))?;
     let line = |plane| {
         let behind = if told_apart { format!("  {plane:<2}  {}", input.display()) } else { String::new() };
         sums.plane(plane).map(|sum| format!("{sum:08x}{behind}\n"))

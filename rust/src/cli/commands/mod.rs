@@ -6,6 +6,7 @@ pub mod convert;
 pub mod deblock;
 pub mod diff;
 pub mod picture;
+pub mod pixel;
 pub mod tiles;
 
 use std::fs::{self, File};
@@ -34,6 +35,11 @@ fn open(path: &Path) -> Result<StoredPicture, BadFile> {
 fn load(path: &Path, progress: &Progress) -> Result<StoredPicture, Failure> {
     progress.doing(format!("reading {}", path.display()));
     open(path).map_err(|error| bad(path, error))
+}
+
+/// A refusal of a verb whose standard output is for results alone, so that a program can read it.
+fn refused_aside(path: &Path, refusal: Refusal) -> Failure {
+    Failure::RefusedAside(format!("{}: {refusal}", path.display()))
 }
 
 /// What helps, where the conversion would change the cell that a refusal names.
