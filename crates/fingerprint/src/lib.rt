@@ -7,10 +7,10 @@ ghost use mathlib.Core.Path.{_≡_};
 ghost use Prim.Native.Nat.{_*_, _%_, _^_, _<_};
 ghost use lib.Bits.{bitXor};
 ghost use Rattle.picture.specs.Lent.{given};
-ghost use Rattle.fingerprint.specs.Fnv.{prime, withSample, withSamples, rowShown};
+ghost use Rattle.fingerprint.specs.Fnv.{prime, step, withSample, withSamples, rowShown};
 ghost use Rattle.fingerprint.specs.Fnv.{listFingerprint, planeFingerprint};
 
-const BASIS: u64 = 14695981039346656037;
+pub const BASIS: u64 = 14695981039346656037;
 
 // x times the prime, 2^40 + 435, modulo 2^64. No multiplication wraps: x is taken in halves.
 fn times_prime(x: u64) -> u64
@@ -22,10 +22,11 @@ fn times_prime(x: u64) -> u64
     wrapping_add_u64(top, wrapping_add_u64(high, low))
 }
 
-fn mixed(before: u64, sample: u16) -> u64
-    ensures { λ r. ⌜ r ≡ bitXor before sample ⌝ }
+// With one more number in place of a byte.
+pub fn with_word(before: u64, word: u32) -> u64
+    ensures { λ r. ⌜ r ≡ step before word ⌝ }
 {
-    before ^ (sample as u64)
+    times_prime(before ^ (word as u64))
 }
 
 // A place outside the plane adds nothing.
@@ -33,7 +34,7 @@ fn with_sample(before: u64, read: Sample) -> u64
     ensures { λ r. ⌜ r ≡ withSample before read ⌝ }
 {
     match read {
-        Sample::Inside(sample) => times_prime(mixed(before, sample)),
+        Sample::Inside(sample) => with_word(before, sample as u32),
         Sample::Outside => before,
     }
 }

@@ -5,6 +5,7 @@ mod turn;
 pub use turn::run_checksums;
 pub use turn::run_finished_checksums;
 pub use turn::run_moves;
+pub use turn::run_pixels;
 pub use turn::run_stage;
 pub use turn::run_tiles;
 
@@ -21,4 +22,5 @@ enum Task {
     Stage(Shown),
     Tiles,
     Checksums,
+    Pixel,
 }

@@ -4,16 +4,21 @@ use crate::Task;
 use checksum::Checksums;
 use checksum::picture_checksums;
 use ledger::Verdict;
+use libc::STDIN_FILENO;
 use moves::farthest_move;
 use picture::Settings;
 use picture_record::SAMPLES;
 use picture_record::front;
 use picture_record::length_at;
 use picture_record::settings;
+use picture_record::word;
 use picture_text::Moves;
 use picture_text::put_checksums;
 use picture_text::put_line;
 use picture_text::put_moves;
+use picture_text::put_pixel;
+use picture_text::stop;
+use recogniser::pixel_at;
 use stage::apply_deblocking;
 use tile_run::JUNK;
 use tile_run::LentSamples;
@@ -164,6 +169,18 @@ fn with_outputs(
     )
 }
 
+// A pixel of the given planes. Its column and row, a word each, stand behind the picture.
+fn pixel_line(number: u64, settings: Settings, y: &[u16], cb: &[u16], cr: &[u16]) -> bool {
+    let mut at = [0u8; 8];
+    if io::read_full(STDIN_FILENO, &mut at) < 8 {
+        return stop(b"short\n");
+    }
+    put_pixel(
+        number,
+        pixel_at(settings, y, cb, cr, word(&at, 0), word(&at, 1)),
+    )
+}
+
 // What the task asks for, of one picture.
 pub(crate) fn answer(
     task: Task,
@@ -191,6 +208,7 @@ pub(crate) fn answer(
             rows,
         ),
         Task::Checksums => put_checksums(number, picture_checksums(settings(head), y, cb, cr)),
+        Task::Pixel => pixel_line(number, settings(head), y, cb, cr),
         Task::Tiles => tile_lines(
             number,
             settings(head),

@@ -138,3 +138,8 @@ pub fn run_checksums() {
 pub fn run_finished_checksums() {
     run(Task::Stage(Shown::Checksums));
 }
+
+// A line for each picture: one pixel of its planes as they are given.
+pub fn run_pixels() {
+    run(Task::Pixel);
+}

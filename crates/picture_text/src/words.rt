@@ -30,6 +30,29 @@ pub(crate) fn put_hex_then(n: u64, digits: usize, end: &[u8]) -> bool {
     io::write_all(STDOUT_FILENO, end)
 }
 
+// The number and the place of an answer, and what follows them.
+pub(crate) fn put_answer(number: u32, place: u64, end: &[u8]) -> bool {
+    if !put_number(number as u64) {
+        return false;
+    }
+    put_number_then(place, end)
+}
+
+// A number of 32 bits, eight digits, and what follows it.
+pub(crate) fn put_word(word: u32, end: &[u8]) -> bool {
+    put_hex_then(word as u64, 8, end)
+}
+
+pub(crate) fn put_three(y: u32, cb: u32, cr: u32) -> bool {
+    if !put_word(y, b" ") {
+        return false;
+    }
+    if !put_word(cb, b" ") {
+        return false;
+    }
+    put_word(cr, b"\n")
+}
+
 pub fn put_fingerprints(planes: Fingerprints) -> bool {
     if !put_hex_then(planes.y, 16, b" ") {
         return false;

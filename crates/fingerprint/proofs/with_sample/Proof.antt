@@ -2,17 +2,17 @@
 -- Assumes nothing.
 use mathlib.Core.Path.{_≡_, refl}
 use borrow.Author.Needs.{needs}
-use Rattle.fingerprint.specs.Fnv.{step, withSample}
+use Rattle.fingerprint.specs.Fnv.{withSample}
 use Rattle.fingerprint.proofs.with_sample.Statement.{statement}
 use Rattle.fingerprint.proofs.with_sample.Tie as tie
 
 -- back to the arm of a sample inside
-abbrev inside : tie.After-times-prime → tie.After-read
-inside c = c .before .before .before
+abbrev inside : tie.After-with-word → tie.After-read
+inside c = c .before .before
 
 returns : tie.Need-returns
-unfolding step withSample
-returns c = rw (c .times-prime .ensures, c .before .mixed .ensures, inside c .read .given .1) refl
+unfolding withSample
+returns c = rw (c .with-word .ensures, inside c .read .given .1) refl
 
 returns-2 : tie.Need-returns-2
 unfolding withSample
@@ -23,7 +23,7 @@ with-sample-spec =
     tie.close
     (tie.spec
     (λ c. search needs)
-    (λ c κs. search needs)
+    (λ c. search needs)
     (λ c κs. search needs)
     (λ c. search needs)
     returns
