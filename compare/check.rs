@@ -11,6 +11,7 @@ use crate::lists;
 use crate::moves;
 use crate::ours;
 use crate::picture::{PLANE_NAMES, Picture};
+use crate::pixels;
 use crate::random::Random;
 use crate::standard;
 use crate::sums;
@@ -31,6 +32,8 @@ pub struct Agreed {
     /// Whether the customer's Rust is not asked here, but the second program alone; and whether the Rust leaves other planes.
     pub left_out: bool,
     pub parted: bool,
+    /// A pixel of the planes that the stage left.
+    pub asked: pixels::Outcome,
     /// What the customer's Rust left.
     theirs: [Vec<u16>; 3],
 }
@@ -41,8 +44,9 @@ pub struct Found {
     pub agreed: Option<Agreed>,
     /// Strengths that had no edge, where C-14's rule alone refuses the picture.
     pub zeroed: u64,
-    /// The checksums of the given planes.
+    /// The checksums of the given planes, and a pixel of them.
     pub summed: sums::Outcome,
+    pub asked: pixels::Outcome,
 }
 
 /// The first sample that differs, with both values.
@@ -140,7 +144,8 @@ fn check_accepted(p: &Picture, planes: &[Vec<u16>; 3], rust: &mut Rust, random: 
     // Last: what is too far because it is another sample is told as that, and so is what sums up otherwise.
     let shares = moves::check(p, planes)?;
     sums::check_finished(p, planes, random)?;
-    Ok(Agreed { coverage, calls, moved, shares, tiles, absent_grid, left_out, parted: *planes != theirs, theirs })
+    let asked = pixels::check_one(p, planes, (0, 0), random).map_err(|what| format!("finished planes: {what}"))?;
+    Ok(Agreed { coverage, calls, moved, shares, tiles, absent_grid, left_out, parted: *planes != theirs, asked, theirs })
 }
 
 /// Both sides on one picture as it is, and the planes that the stage leaves. `None` stands for a refusal on which they agree.
@@ -167,17 +172,18 @@ fn check_unconverted(p: &Picture, converted: &Agreed, planes: &[Vec<u16>; 3], ru
     same_planes(p, planes, &standard::deblocked(p), "second program on the unconverted")
 }
 
-/// Both sides on one picture, accepted or not, on its cell list and on the checksums of its planes. An error says what differs.
+/// Both sides on one picture, accepted or not, on its cell list, on the checksums of its planes and on a pixel. An error says what differs.
 pub fn check(p: &Picture, rust: &mut Rust, random: &mut Random) -> Result<Found, String> {
     let (agreed, _) = check_as_it_is(p, rust, random)?;
     lists::check(&p.cells, p.cells.len(), random)?;
     let summed = sums::check_given(p, random)?;
+    let asked = pixels::check_one(p, &p.planes, summed.verdict, random).map_err(|what| format!("given planes: {what}"))?;
     if agreed.is_some() || ledger::verdict_before(p) != (0, 0) {
-        return Ok(Found { agreed, zeroed: 0, summed });
+        return Ok(Found { agreed, zeroed: 0, summed, asked });
     }
     let converted = conversion::picture(p.clone());
     let (agreed, planes) = check_as_it_is(&converted, rust, random).map_err(|what| format!("converted: {what}"))?;
     let agreed = agreed.ok_or("the ledger refuses the converted picture")?;
     check_unconverted(p, &agreed, &planes, rust)?;
-    Ok(Found { agreed: Some(agreed), zeroed: conversion::zeroed(&p.cells, &converted.cells), summed })
+    Ok(Found { agreed: Some(agreed), zeroed: conversion::zeroed(&p.cells, &converted.cells), summed, asked })
 }

@@ -1,6 +1,6 @@
 //! The stage beside the customer's Rust, a second program from H.265 and document 01's refusal ledger, on random pictures; and the
-//! conversion of cell lists, on random lists; and the checksums of planes, on those of the pictures and on random ones. README.md says what
-//! is compared. Besides, a search for pictures whose samples go as far as they can.
+//! conversion of cell lists, on random lists; and the checksums and pixels of planes, on those of the pictures and on random ones; and the
+//! way back from a pixel's floats. README.md says what is compared. Besides, a search for pictures whose samples go as far as they can.
 
 #![allow(dead_code)] // not all of the customer's files is called from here
 
@@ -44,6 +44,7 @@ mod dump;
 mod far;
 mod far_content;
 mod far_tally;
+mod floats;
 mod generate;
 mod guards;
 mod ledger;
@@ -51,16 +52,21 @@ mod lists;
 mod moves;
 mod options;
 mod ours;
+mod parts;
+mod pixels;
+mod pixels_tally;
 mod planes;
 mod planes_tally;
 mod program;
 mod random;
+mod recogniser;
 mod search;
 mod shrink;
 mod sums;
 mod tally;
 
 use options::Options;
+use parts::Part;
 use picture::Picture;
 use random::Random;
 use tally::Tally;
@@ -101,6 +107,7 @@ fn look_at(picture: &Picture, kinds: &[usize], rust: &mut Rust, random: &mut Ran
     assert_eq!(kinds.is_empty(), accepted, "the generator made another picture than it should");
     let found = check::check(picture, rust, random)?;
     tally.summed.count(&found);
+    tally.pixels.count(picture, &found);
     match &found.agreed {
         Some(agreed) if accepted => tally.count_accepted(picture, verdict, agreed, found.zeroed),
         _ => tally.count_refused(picture, verdict, kinds, &found),
@@ -113,40 +120,56 @@ fn look_at_far(picture: &Picture, rust: &mut Rust, random: &mut Random, tally: &
     assert_eq!(ledger::verdict(picture), (0, 0), "the generator made another picture than it should");
     let found = check::check(picture, rust, random)?;
     tally.summed.count(&found);
+    tally.pixels.count(picture, &found);
     tally.far.count(picture, &found.agreed.ok_or("an accepted picture was not filtered")?);
     Ok(())
 }
 
-/// Picture, list or planes `number`: counted, or what differs. After the pictures come as many lists as there are accepted pictures, then
-/// the adversarial pictures, and then the planes, which both have numbers of their own.
-fn look_at_number(options: &Options, number: u64, rust: &mut Rust, tally: &mut Tally) -> Result<(), Difference> {
-    let differs = |at: String, picture: Option<Picture>| move |what: String| Difference { at, picture, what };
-    let lists = options.accepted + options.damaged;
-    let far = lists + options.accepted;
-    let planes = far + options.far;
-    if number < lists {
-        let (picture, kinds, mut random) = picture(options, number);
-        let looked = look_at(&picture, &kinds, rust, &mut random, tally);
-        return looked.map_err(differs(format!("picture {number}"), Some(picture)));
-    }
-    if number < far {
-        let mut random = Random::new(options.seed, 2, number);
-        let (cells, out_length) = lists::list(&mut random);
-        lists::check(&cells, out_length, &mut random).map_err(differs(format!("list {number}"), None))?;
-        tally.lists.count(&cells, out_length);
-        return Ok(());
-    }
-    if number < planes {
-        let mut random = Random::new(options.seed, 4, number - far);
-        let picture = far::picture(&mut random);
-        let looked = look_at_far(&picture, rust, &mut random, tally);
-        return looked.map_err(differs(format!("adversarial picture {}", number - far), Some(picture)));
-    }
-    let mut random = Random::new(options.seed, 5, number - planes);
-    let picture = planes::picture(&mut random, number - planes);
-    let found = sums::check_given(&picture, &mut random).map_err(differs(format!("planes {}", number - planes), None))?;
-    tally.planes.count(&picture, &found);
+/// One picture's planes, for their checksums and some pixels: counted, or what differs.
+fn look_at_planes(picture: &Picture, random: &mut Random, tally: &mut Tally) -> Result<(), String> {
+    let found = sums::check_given(picture, random)?;
+    tally.planes.count(picture, &found);
+    tally.pixels.count_planes(picture, &pixels::check_some(picture, found.verdict, random)?);
     Ok(())
+}
+
+/// Number `number` of a part: counted, or what differs.
+fn look_at_number(options: &Options, part: Part, number: u64, rust: &mut Rust, tally: &mut Tally) -> Result<(), Difference> {
+    let differs = |at: String, picture: Option<Picture>| move |what: String| Difference { at, picture, what };
+    let mut random = Random::new(options.seed, part as u64, number);
+    match part {
+        Part::Pictures => {
+            let (picture, kinds, mut random) = picture(options, number);
+            let looked = look_at(&picture, &kinds, rust, &mut random, tally);
+            looked.map_err(differs(format!("picture {number}"), Some(picture)))
+        }
+        Part::Lists => {
+            let (cells, out_length) = lists::list(&mut random);
+            lists::check(&cells, out_length, &mut random).map_err(differs(format!("list {number}"), None))?;
+            tally.lists.count(&cells, out_length);
+            Ok(())
+        }
+        Part::Far => {
+            let picture = far::picture(&mut random);
+            let looked = look_at_far(&picture, rust, &mut random, tally);
+            looked.map_err(differs(format!("adversarial picture {number}"), Some(picture)))
+        }
+        Part::Planes => {
+            let picture = planes::picture(&mut random, number);
+            look_at_planes(&picture, &mut random, tally).map_err(differs(format!("planes {number}"), None))
+        }
+        Part::Blocks => {
+            let refused = floats::check_block(number, &mut random).map_err(differs(format!("block {number} of samples"), None))?;
+            tally.pixels.count_block(refused);
+            Ok(())
+        }
+        Part::Floats => {
+            let count = floats::BATCH.min(options.floats - number * floats::BATCH);
+            let found = floats::check_batch(count, &mut random).map_err(differs(format!("batch {number} of floats"), None))?;
+            tally.pixels.count_floats(&found);
+            Ok(())
+        }
+    }
 }
 
 fn work(run: &Run) {
@@ -154,11 +177,8 @@ fn work(run: &Run) {
     let mut tally = Tally::new();
     loop {
         let number = run.next.fetch_add(1, Ordering::Relaxed);
-        let end = 2 * run.options.accepted + run.options.damaged + run.options.far + run.options.planes;
-        if number >= end || number > run.last.load(Ordering::Relaxed) {
-            break;
-        }
-        if let Err(difference) = look_at_number(&run.options, number, &mut rust, &mut tally) {
+        let Some((part, own)) = Part::of(&run.options, number).filter(|_| number <= run.last.load(Ordering::Relaxed)) else { break };
+        if let Err(difference) = look_at_number(&run.options, part, own, &mut rust, &mut tally) {
             run.last.fetch_min(number, Ordering::Relaxed);
             run.found.lock().unwrap().push((number, difference));
         }
@@ -172,6 +192,10 @@ fn report(options: &Options, difference: &Difference) {
     let Some(picture) = difference.picture.as_ref().filter(|_| options.shrink) else { return };
     let mut rust = Rust::new();
     let mut differs = |p: &Picture| check::check(p, &mut rust, &mut Random::new(0, 1, 0)).err();
+    if differs(picture).is_none() {
+        println!("not made smaller: it differs at that pixel, and not at the one that is asked for now");
+        return;
+    }
     let small = shrink::shrink(picture, |p| differs(p).is_some());
     println!("the smallest picture found: {}", differs(&small).unwrap_or_default());
     dump::print(&small);
@@ -191,6 +215,17 @@ fn quiet_customer() {
     }));
 }
 
+/// What is asked for in place of the run.
+fn instead(options: &Options) -> Option<ExitCode> {
+    if let Some(file) = &options.program {
+        return Some(program::run(file, options.accepted, options.seed));
+    }
+    if let Some(file) = &options.search {
+        return Some(search::run(file, options.seed));
+    }
+    options.every_float.as_ref().map(|which| floats::run_every(which, options.threads))
+}
+
 fn main() -> ExitCode {
     let options = match Options::read(std::env::args().skip(1)) {
         Ok(options) => options,
@@ -200,11 +235,8 @@ fn main() -> ExitCode {
         }
     };
     println!("seed {}", options.seed);
-    if let Some(file) = &options.program {
-        return program::run(file, options.accepted, options.seed);
-    }
-    if let Some(file) = &options.search {
-        return search::run(file, options.seed);
+    if let Some(code) = instead(&options) {
+        return code;
     }
     quiet_customer();
     let threads = options.threads;

@@ -167,8 +167,8 @@ CHECKS = [
     Edit("checks/settings", "(8192 < n)", "(8200 < n)"),
     Edit("checks/settings", "(n % 8 != 0)", "(n % 4 != 0)"),
     Edit("checks/settings", "3 < settings.chroma_format", "4 < settings.chroma_format"),
-    Edit("checks/settings", "(luma < 8)", "(luma < 7)"),
-    Edit("checks/settings", "(16 < chroma)", "(17 < chroma)"),
+    Edit("checks/settings", "(depth < 8)", "(depth < 7)"),
+    Edit("checks/settings", "(16 < depth)", "(17 < depth)"),
     Edit("checks/settings", "(settings.log2_ctb < 4)", "(settings.log2_ctb < 3)"),
     Edit("checks/settings", "(12 < offset)", "(13 < offset)"),
     Edit("checks/lengths", "(cr != chroma)", "(cr < chroma)"),
@@ -442,13 +442,105 @@ CHECKED = [
 # refusal's place 0, and seven digits.
 SUMMED = [
     Edit("picture_run/pictures", "picture_checksums(settings(head), y, cb, cr)", "picture_checksums(settings(head), y, cr, cb)"),
-    Edit("picture_text/sums", 'put_number_then(place_of(verdict), b"\\n")', 'put_number_then(0, b"\\n")'),
-    Edit("picture_text/sums", "put_hex_then(sum as u64, 8, end)", "put_hex_then(sum as u64, 7, end)"),
+    Edit("picture_text/sums", "put_answer(number_of(verdict), place_of(verdict),", "put_answer(number_of(verdict), 0,"),
+    Edit("picture_text/words", "put_hex_then(word as u64, 8, end)", "put_hex_then(word as u64, 7, end)"),
 ]
 FINISHED = [
     Edit("picture_run/pictures", "picture_checksums(settings, outy, outcb, outcr)", "picture_checksums(settings, outy, outcr, outcb)"),
     Edit("picture_run/pictures", "finished_checksums(settings, verdict, outy, outcb, outcr)",
          "finished_checksums(settings, verdict, y, cb, cr)"),
+]
+
+# The float of a sample (C-22): over 2^depth - 1; chroma with another middle or none, without its sign, or below 0 at the middle; luma by
+# chroma's rule, and the other way; a part by the other's depth, and Cr's for Cb's.
+PARTS = [
+    Edit("float_samples/parts", "(power(depth) as f32)", "((power(depth) - 1) as f32)"),
+    Edit("float_samples/parts", "65536 >> (16 - depth)", "32768 >> (16 - depth)"),
+    Edit("float_samples/parts", "power(depth - 1) as u16", "(power(depth - 1) - 1) as u16"),
+    Edit("float_samples/parts", "let half = middle(depth);", "let half: u16 = 0;"),
+    Edit("float_samples/parts", "-over(depth, half - sample)", "over(depth, half - sample)"),
+    Edit("float_samples/parts", "if sample < half {", "if sample <= half {"),
+    Edit("float_samples/parts", "    if chroma {", "    if chroma & (depth < 16) {"),
+    Edit("float_samples/parts", "luma: part(luma_depth, false, y)", "luma: part(luma_depth, true, y)"),
+    Edit("float_samples/parts", "luma: part(luma_depth, false, y)", "luma: part(chroma_depth, false, y)"),
+    Edit("float_samples/parts", "cb: part(chroma_depth, true, cb)", "cb: part(luma_depth, true, cb)"),
+    Edit("float_samples/parts", "cb: part(chroma_depth, true, cb)", "cb: part(chroma_depth, true, cr)"),
+    Edit("float_samples/parts", "cr: part(chroma_depth, true, cr)", "cr: part(chroma_depth, false, cr)"),
+]
+
+# The way back: negative zero taken; floats between two samples taken; samples lost by the scaling, the truncation and its two ends;
+# chroma's sides exchanged, its least sample lost; one sample past the range, or all of 16 bits; the last sample lost. And its C function:
+# another number, a place not stored, a sample beside a refusal.
+HELD = "a sample's float has the same candidate, and a candidate is taken only where it gives the float bit for bit"
+WAY_BACK = [
+    Edit("float_samples/way_back", "f32::to_bits(a) == f32::to_bits(b)", "a == b"),
+    Edit("float_samples/way_back", "if same(given, value) {", "if given <= value {"),
+    Edit("float_samples/way_back", "if same(given, value) {", "if value <= given {"),
+    Edit("float_samples/way_back", "if same(given, value) {", "if given == given {"),
+    Edit("float_samples/way_back", "(power(depth) as f32)", "((power(depth) - 1) as f32)"),
+    Edit("float_samples/way_back", "truncating_f32_to_u64(scaled)", "truncating_f32_to_u64(scaled + 1.0)"),
+    Edit("float_samples/way_back", "truncating_f32_to_u64(scaled)", "truncating_f32_to_u64(scaled + 0.5)", HELD),
+    Edit("float_samples/way_back", "if scaled > -1.0 {", "if scaled > 0.0 {"),
+    Edit("float_samples/way_back", "if scaled < 18446744073709551616.0 {", "if scaled < 65535.0 {"),
+    Edit("float_samples/way_back", "if scaled < 18446744073709551616.0 {", "if scaled < 65536.0 {", HELD),
+    Edit("float_samples/way_back", "return half - n;", "return half + n;"),
+    Edit("float_samples/way_back", "return half + n;", "return half - n;"),
+    Edit("float_samples/way_back", "        if n <= half {\n            return half - n;",
+         "        if n < half {\n            return half - n;"),
+    Edit("float_samples/way_back", "    if chroma {", "    if chroma & (depth < 16) {"),
+    Edit("float_samples/way_back", "if s < power(depth) as u64 {", "if s <= power(depth) as u64 {"),
+    Edit("float_samples/way_back", "if s < power(depth) as u64 {", "if s < 65536 {"),
+    Edit("float_samples/way_back", "if s < power(depth) as u64 {", "if s + 1 < power(depth) as u64 {"),
+    Edit("recogniser/way_back", "return Recovered::Depth;", "return Recovered::NoSample;"),
+    Edit("recogniser/way_back", "Found::Nothing => Recovered::NoSample", "Found::Nothing => Recovered::Sample(0)"),
+    Edit("recogniser/way_back", "find_sample(depth, chroma, value)", "find_sample(depth, chroma & (value < 0.5), value)"),
+    Edit("tinladle/recovered", "*place = 0;", "*place = *place;"),
+    Edit("tinladle/recovered", "Recovered::NoSample => 15,", "Recovered::NoSample => 14,"),
+    Edit("tinladle/recovered", "Recovered::Depth => 3,", "Recovered::Depth => 15,"),
+    Edit("tinladle/recovered", "Recovered::NoSample => 15,",
+         "Recovered::NoSample => {\n            *sample = 0;\n            15\n        }"),
+    Edit("tinladle/recovered", "*sample = found;", "*sample = if found < 65535 { found } else { 0 };"),
+]
+
+# A pixel: the one to the right, and column and row exchanged; chroma not under it, by the luma width, or rounded up; Cb and Cr exchanged;
+# grey by the other depth; a column or row past the end taken; 14 before the planes' checks. And its C function: a place not stored, or 0;
+# 15 for 14; what is stored beside a refusal, and of Cb in format 0; two parts, or the two depths, exchanged.
+OUTSIDE = """    if is_outside(settings, column, row) {
+        return Pixel::Outside;
+    }
+"""
+VERDICT = """    let verdict = check_planes(settings, y, cb, cr);
+    let Verdict::Accepted = verdict else {
+        return Pixel::Refused(verdict);
+    };
+"""
+ASKED = [
+    Edit("recogniser/pixels", "    y * width + x\n", "    y * width + x + 1\n"),
+    Edit("recogniser/pixels", "    y * width + x\n", "    x * width + y\n"),
+    Edit("recogniser/pixels", "y[index_of(settings.width as usize, column as usize, row as usize)]",
+         "y[index_of(settings.width as usize, row as usize, column as usize)]"),
+    Edit("recogniser/pixels", "column_under(settings.chroma_format, column)", "column as usize"),
+    Edit("recogniser/pixels", "chroma_rows(settings.chroma_format, row as usize)", "row as usize"),
+    Edit("recogniser/pixels", "index_of(width.0, x, y)", "index_of(settings.width as usize, x, y)"),
+    Edit("recogniser/pixels", "LumaColumn(column as usize)", "LumaColumn(column as usize + 1)"),
+    Edit("recogniser/pixels", "        cb[index],\n        cr[index],\n", "        cr[index],\n        cb[index],\n"),
+    Edit("recogniser/pixels", "part(settings.luma_depth, false, luma)", "part(settings.chroma_depth, false, luma)"),
+    Edit("recogniser/pixels", "(settings.width <= column)", "(settings.width < column)"),
+    Edit("recogniser/pixels", "(settings.height <= row)", "(settings.height < row)"),
+    Edit("recogniser/pixels", "(settings.width <= column) | (settings.height <= row)",
+         "(settings.width <= row) | (settings.height <= column)"),
+    Edit("recogniser/pixels", VERDICT + OUTSIDE, OUTSIDE + VERDICT),
+    Edit("tinladle/pixels", "*place = 0;", "*place = *place;"),
+    Edit("tinladle/pixels", "*place = place_of(verdict);", "*place = 0;"),
+    Edit("tinladle/pixels", "Pixel::Outside => 14,", "Pixel::Outside => 15,"),
+    Edit("tinladle/pixels", "Pixel::Outside => 14,", "Pixel::Outside => {\n            *luma = 0.0;\n            14\n        }"),
+    Edit("tinladle/pixels", "*place = place_of(verdict);", "*place = place_of(verdict);\n            *cr_part = 0.0;"),
+    Edit("tinladle/pixels", "*luma = grey;", "*luma = grey;\n            *cb_part = grey;"),
+    Edit("tinladle/pixels", "*cb_part = parts.cb;\n            *cr_part = parts.cr;",
+         "*cb_part = parts.cr;\n            *cr_part = parts.cb;"),
+    Edit("tinladle/pixels", "        luma_depth: luma_depth,\n        chroma_depth: chroma_depth,\n",
+         "        luma_depth: chroma_depth,\n        chroma_depth: luma_depth,\n"),
+    Edit("tinladle/pixels", "pixel_at(settings, y, cb, cr, column, row)", "pixel_at(settings, y, cb, cr, row, column)"),
 ]
 
 
@@ -459,4 +551,4 @@ def built_as(crate, edits):
 EDITS = [*THRESHOLDS, *DECISION, *LINES, *WINDOWS, *GATE, *TILES_AND_POSITIONS, *PASSES, *RESTORATION, *CHECKS, *MISTAKES,
          *EMPTY_LIST, *PALETTE, *RULE, *CONVERSION, *built_as("convert_cells", CONVERTER), *built_as("segment_bench", COUNTS),
          *built_as("far_pictures", FARTHEST), *CHECKSUM, *CHECKED, *built_as("checksum_cases", SUMMED),
-         *built_as("real_checksums", FINISHED)]
+         *built_as("real_checksums", FINISHED), *PARTS, *WAY_BACK, *ASKED]

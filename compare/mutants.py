@@ -27,7 +27,7 @@ from mutant_edits import EDITS
 from unproved import (BENCH, CONVERTER, FAR, FINISHED, LIBRARY, ROOT, SUMS, WORK, begin, build_library, build_program, copy_sources,
                       must, renamed)
 
-ACCEPTED, DAMAGED, ADVERSARIAL, PLANES, SEED = 4000, 8000, 4000, 4000, 7
+ACCEPTED, DAMAGED, ADVERSARIAL, PLANES, FLOATS, SEED = 4000, 8000, 4000, 4000, 200_000, 7
 LISTS = 300  # through convert_cells, each of up to 160 KiB
 RECORDS = 2000  # through segment_bench
 PATIENCE = 120  # seconds for one run: a mutant may not end
@@ -75,7 +75,8 @@ def compare_stage(library, *words):
 
 
 def compare_library(folder):
-    return compare_stage(folder, "--accepted", ACCEPTED, "--damaged", DAMAGED, "--far", ADVERSARIAL, "--planes", PLANES)
+    return compare_stage(folder, "--accepted", ACCEPTED, "--damaged", DAMAGED, "--far", ADVERSARIAL, "--planes", PLANES,
+                         "--floats", FLOATS)
 
 
 def compare_converter(folder):
@@ -147,9 +148,9 @@ def try_one(number, edit):
 
 def try_unchanged(unchanged):
     """Whether nothing is found in the unchanged sources."""
-    print(f"comparison with --accepted {ACCEPTED} --damaged {DAMAGED} --far {ADVERSARIAL} --planes {PLANES} --seed {SEED}; of {CONVERTER}"
-          f" with {LISTS} lists, of {BENCH} with {RECORDS} records and the table's, of {FAR}, {SUMS} and {FINISHED} with their stored"
-          " pictures")
+    print(f"comparison with --accepted {ACCEPTED} --damaged {DAMAGED} --far {ADVERSARIAL} --planes {PLANES} --floats {FLOATS}"
+          f" --seed {SEED}; of {CONVERTER} with {LISTS} lists, of {BENCH} with {RECORDS} records and the table's, of {FAR}, {SUMS} and"
+          f" {FINISHED} with their stored pictures")
     found = [COMPARISONS[crate](folder) for crate, folder in unchanged.items()]
     for crate, what in zip(unchanged, found):
         print(f"the unchanged {crate}, unproved: {what or 'no difference'}", flush=True)

@@ -2,7 +2,7 @@
 //! filled with junk beforehand.
 
 use crate::guards::Lent;
-use crate::library::{tinladle_checksum, tinladle_convert_cells, tinladle_deblock};
+use crate::library::{tinladle_checksum, tinladle_convert_cells, tinladle_deblock, tinladle_pixel, tinladle_sample};
 use crate::picture::{PLANE_NAMES, Picture};
 use crate::random::Random;
 
@@ -122,40 +122,90 @@ pub fn convert(cells: &[u8], out_length: usize, random: &mut Random) -> Result<(
     Ok((number, out.items().to_vec()))
 }
 
-/// What the checksum function answered, and what the places of its sums hold, with what they held before.
-pub struct Summed {
+/// What a function of planes answered, and what the three places that it may store in hold, with what they held before.
+pub struct Stored {
     pub number: u32,
     pub place: u64,
-    pub sums: [u32; 3],
+    pub words: [u32; 3],
     pub junk: [u32; 3],
 }
 
-/// As above, each pointer goes with its own buffer's length, and the buffers lie apart.
-#[rustfmt::skip]
-fn call_checksum(p: &Picture, planes: &mut [Lent<u16>; 3], sums: &mut [Lent<u32>; 3], place: &mut Lent<u64>, null: bool) -> u32 {
-    let ([y, cb, cr], [sum_y, sum_cb, sum_cr]) = (planes, sums);
-    unsafe {
-        tinladle_checksum(
-            p.width, p.height, p.format, p.luma_depth, p.chroma_depth,
-            y.at(null), y.len(), cb.at(null), cb.len(), cr.at(null), cr.len(),
-            sum_y.at(false), sum_cb.at(false), sum_cr.at(false), place.at(false),
-        )
+/// Planes as they are lent to a function that takes them alone, once or several times.
+pub struct LentPlanes<'a> {
+    planes: &'a [Vec<u16>; 3],
+    lent: [Lent<u16>; 3],
+    null: bool,
+}
+
+impl<'a> LentPlanes<'a> {
+    pub fn of(planes: &'a [Vec<u16>; 3], word: u64) -> Self {
+        LentPlanes { planes, lent: [0, 1, 2].map(|plane| Lent::of(&planes[plane], word as u16)), null: word >> 63 == 1 }
+    }
+
+    /// The answer of a function that is given the planes, the places that it may store in, and the place of its answer.
+    fn ask(
+        &mut self,
+        name: &str,
+        word: u64,
+        function: impl Fn(&mut [Lent<u16>; 3], [*mut u32; 3], *mut u64, bool) -> u32,
+    ) -> Result<Stored, String> {
+        let junk = [0, 16, 32].map(|shift| (word >> shift) as u32);
+        let mut words = junk.map(|junk| Lent::of(&[junk], !junk));
+        let mut place = Lent::of(&[word], !word);
+        let number = function(&mut self.lent, words.each_mut().map(|word| word.at(false)), place.at(false), self.null);
+        if !self.lent.iter().all(Lent::guarded) || !words.iter().all(Lent::guarded) || !place.guarded() {
+            return Err(format!("the {name} function wrote a guard word"));
+        }
+        if let Some(plane) = (0..3).find(|&plane| self.lent[plane].items() != self.planes[plane]) {
+            return Err(format!("the {name} function wrote {}", PLANE_NAMES[plane]));
+        }
+        Ok(Stored { number, place: place.items()[0], words: words.map(|word| word.items()[0]), junk })
+    }
+
+    /// The floats of a pixel, with a picture's settings, as bit patterns; or what was written that must not. As above, each pointer goes
+    /// with its own buffer's length, and the buffers lie apart.
+    #[rustfmt::skip]
+    pub fn pixel(&mut self, p: &Picture, (column, row): (u32, u32), random: &mut Random) -> Result<Stored, String> {
+        self.ask("pixel", random.next(), |[y, cb, cr], [luma, cb_part, cr_part], place, null| unsafe {
+            tinladle_pixel(
+                p.width, p.height, p.format, p.luma_depth, p.chroma_depth,
+                y.at(null), y.len(), cb.at(null), cb.len(), cr.at(null), cr.len(),
+                column, row, luma.cast(), cb_part.cast(), cr_part.cast(), place,
+            )
+        })
     }
 }
 
-/// The checksum function on planes, with a picture's settings; or what it wrote that it must not.
-pub fn checksum(p: &Picture, planes: &[Vec<u16>; 3], random: &mut Random) -> Result<Summed, String> {
+/// The checksum function on planes, with a picture's settings; or what it wrote that it must not. The buffers are as above.
+#[rustfmt::skip]
+pub fn checksum(p: &Picture, planes: &[Vec<u16>; 3], random: &mut Random) -> Result<Stored, String> {
     let word = random.next();
-    let (null, junk) = (word >> 63 == 1, [0, 16, 32].map(|shift| (word >> shift) as u32));
-    let mut lent = [0, 1, 2].map(|plane| Lent::of(&planes[plane], word as u16));
-    let mut sums = junk.map(|junk| Lent::of(&[junk], !junk));
-    let mut place = Lent::of(&[word], !word);
-    let number = call_checksum(p, &mut lent, &mut sums, &mut place, null);
-    if !lent.iter().all(Lent::guarded) || !sums.iter().all(Lent::guarded) || !place.guarded() {
-        return Err("the checksum function wrote a guard word".into());
+    LentPlanes::of(planes, word).ask("checksum", word, |[y, cb, cr], [sum_y, sum_cb, sum_cr], place, null| unsafe {
+        tinladle_checksum(
+            p.width, p.height, p.format, p.luma_depth, p.chroma_depth,
+            y.at(null), y.len(), cb.at(null), cb.len(), cr.at(null), cr.len(),
+            sum_y, sum_cb, sum_cr, place,
+        )
+    })
+}
+
+/// What the way back answered, and what the place of the sample holds, with what it held before.
+pub struct Recovered {
+    pub number: u32,
+    pub place: u64,
+    pub sample: u16,
+    pub junk: u16,
+}
+
+/// The way back from a float; or what it wrote that it must not. One guard on each side, on the stack: there are many floats.
+pub fn sample(depth: u32, chroma: bool, bits: u32, word: u64) -> Result<Recovered, String> {
+    let (guard, junk) = ((word >> 16) as u16, word as u16);
+    let (mut samples, mut places) = ([guard, junk, guard], [!word, word, !word]);
+    let (sample, place) = (samples.as_mut_ptr().wrapping_add(1), places.as_mut_ptr().wrapping_add(1));
+    // Both point at the middle of three.
+    let number = unsafe { tinladle_sample(depth, chroma, f32::from_bits(bits), sample, place) };
+    if [samples[0], samples[2]] != [guard; 2] || [places[0], places[2]] != [!word; 2] {
+        return Err("the way back wrote a guard word".into());
     }
-    if let Some(plane) = (0..3).find(|&plane| lent[plane].items() != planes[plane]) {
-        return Err(format!("the checksum function wrote {}", PLANE_NAMES[plane]));
-    }
-    Ok(Summed { number, place: place.items()[0], sums: sums.map(|sum| sum.items()[0]), junk })
+    Ok(Recovered { number, place: places[1], sample: samples[1], junk })
 }

@@ -13,15 +13,15 @@ pub struct Outcome {
 }
 
 /// Sizes, format and depths, for whoever looks into a difference.
-fn facts(p: &Picture) -> String {
+pub fn facts(p: &Picture) -> String {
     format!("{} by {}, format {}, depths {} and {}", p.width, p.height, p.format, p.luma_depth, p.chroma_depth)
 }
 
 /// The places of the sums hold those of checksum.rs; what has no sum holds what it held.
-fn same_sums(p: &Picture, exact: &[u64], answer: &ours::Summed, whose: &str) -> Result<(), String> {
+fn same_sums(p: &Picture, exact: &[u64], answer: &ours::Stored, whose: &str) -> Result<(), String> {
     let wanted = |plane: usize| exact.get(plane).map_or(answer.junk[plane], |&sum| checksum::modulo(sum));
-    let Some(plane) = (0..3).find(|&plane| answer.sums[plane] != wanted(plane)) else { return Ok(()) };
-    let (name, sum) = (PLANE_NAMES[plane], answer.sums[plane]);
+    let Some(plane) = (0..3).find(|&plane| answer.words[plane] != wanted(plane)) else { return Ok(()) };
+    let (name, sum) = (PLANE_NAMES[plane], answer.words[plane]);
     Err(match exact.get(plane) {
         Some(_) => format!("checksum of {whose} {name} {sum:08x}, second program {:08x}; {}", wanted(plane), facts(p)),
         None => format!("checksum of {whose} planes, answered with {}, stored a sum of {name}; {}", answer.number, facts(p)),

@@ -8,6 +8,7 @@ use crate::ledger::Verdict;
 use crate::lists::Lists;
 use crate::moves::Shares;
 use crate::picture::Picture;
+use crate::pixels_tally::PixelsTally;
 use crate::planes_tally::{PicturesTally, PlanesTally};
 
 /// Counts by a small number: pictures, and segments that the kernels filtered, or those of the pictures that meet their bounds.
@@ -78,6 +79,7 @@ pub struct Tally {
     pub far: FarTally,
     pub summed: PicturesTally,
     pub planes: PlanesTally,
+    pub pixels: PixelsTally,
     /// Of the accepted pictures.
     shares: Shares,
     many_slices: u64,
@@ -181,6 +183,7 @@ impl Tally {
         self.far.add(&more.far);
         self.summed.add(&more.summed);
         self.planes.add(&more.planes);
+        self.pixels.add(&more.pixels);
         self.shares.add(&more.shares);
         self.many_slices += more.many_slices;
         self.luma_samples += more.luma_samples;
@@ -203,6 +206,7 @@ impl Tally {
         self.far.print();
         self.summed.print();
         self.planes.print();
+        self.pixels.print();
     }
 
     fn print_pictures(&self) {
