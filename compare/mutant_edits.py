@@ -543,6 +543,20 @@ ASKED = [
     Edit("tinladle/pixels", "pixel_at(settings, y, cb, cr, column, row)", "pixel_at(settings, y, cb, cr, row, column)"),
 ]
 
+# What the gate's programs print of them: column and row exchanged, a pixel outside told as 15, Cb before luma; of a float the other kind,
+# a NaN's pattern taken for a number, 14 for 15.
+SHOWN = [
+    Edit("picture_run/pictures", "word(&at, 0), word(&at, 1)", "word(&at, 1), word(&at, 0)"),
+    Edit("picture_text/floats", 'Pixel::Outside => put_answer(14, 0, b"\\n")', 'Pixel::Outside => put_answer(15, 0, b"\\n")'),
+    Edit("picture_text/floats", "put_three(bits_of(parts.luma), bits_of(parts.cb), bits_of(parts.cr))",
+         "put_three(bits_of(parts.cb), bits_of(parts.luma), bits_of(parts.cr))"),
+]
+READ = [
+    Edit("float_cases/main", "word(&words, 1) != 0", "word(&words, 1) == 1"),
+    Edit("float_cases/main", "return 0.0 / 0.0;", "return 0.0;"),
+    Edit("picture_text/floats", 'Recovered::NoSample => put_answer(15, 0, b"\\n")', 'Recovered::NoSample => put_answer(14, 0, b"\\n")'),
+]
+
 
 def built_as(crate, edits):
     return [edit._replace(built=crate) for edit in edits]
@@ -551,4 +565,5 @@ def built_as(crate, edits):
 EDITS = [*THRESHOLDS, *DECISION, *LINES, *WINDOWS, *GATE, *TILES_AND_POSITIONS, *PASSES, *RESTORATION, *CHECKS, *MISTAKES,
          *EMPTY_LIST, *PALETTE, *RULE, *CONVERSION, *built_as("convert_cells", CONVERTER), *built_as("segment_bench", COUNTS),
          *built_as("far_pictures", FARTHEST), *CHECKSUM, *CHECKED, *built_as("checksum_cases", SUMMED),
-         *built_as("real_checksums", FINISHED), *PARTS, *WAY_BACK, *ASKED]
+         *built_as("real_checksums", FINISHED), *PARTS, *WAY_BACK, *ASKED,
+         *built_as("pixel_cases", SHOWN), *built_as("float_cases", READ)]

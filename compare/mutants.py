@@ -9,8 +9,8 @@
 A mutant is a copy of the sources under target/mutants changed at one place, built without proof (unproved.py). The comparison loads its
 library in place of the proved static library, or runs its program convert_cells. Of what the bench prints and the stage does not, and of
 single entries of a table, the program segment_bench is run beside the oracle, on random records and on those that read each entry. Of how
-far samples go the program far_pictures is run, and held to its stored text, and of what is printed of checksums checksum_cases or
-real_checksums. The unchanged sources go first: there nothing may be found.
+far samples go the program far_pictures is run, and held to its stored text, of what is printed of checksums checksum_cases or
+real_checksums, and of pixels and floats pixel_cases or float_cases. The unchanged sources go first: there nothing may be found.
 Prints a line for each mutant. The status is 0 where every mutant was noticed but those that are argued to change no output.
 """
 
@@ -24,8 +24,8 @@ from pathlib import Path
 sys.dont_write_bytecode = True
 
 from mutant_edits import EDITS
-from unproved import (BENCH, CONVERTER, FAR, FINISHED, LIBRARY, ROOT, SUMS, WORK, begin, build_library, build_program, copy_sources,
-                      must, renamed)
+from unproved import (BENCH, CONVERTER, FAR, FINISHED, LIBRARY, PIXELS, RECOVERED, ROOT, SUMS, WORK, begin, build_library, build_program,
+                      copy_sources, must, renamed)
 
 ACCEPTED, DAMAGED, ADVERSARIAL, PLANES, FLOATS, SEED = 4000, 8000, 4000, 4000, 200_000, 7
 LISTS = 300  # through convert_cells, each of up to 160 KiB
@@ -101,7 +101,8 @@ def compare_stored(script, word, crate):
 
 COMPARISONS = {LIBRARY: compare_library, CONVERTER: compare_converter, BENCH: compare_bench,
                FAR: compare_stored("far_pictures.py", "stored", FAR), SUMS: compare_stored("checksums.py", "stored", SUMS),
-               FINISHED: compare_stored("checksums.py", "finished", FINISHED)}
+               FINISHED: compare_stored("checksums.py", "finished", FINISHED), PIXELS: compare_stored("pixels.py", "stored", PIXELS),
+               RECOVERED: compare_stored("floats.py", "stored", RECOVERED)}
 
 
 def place(crates, edit):
@@ -149,8 +150,8 @@ def try_one(number, edit):
 def try_unchanged(unchanged):
     """Whether nothing is found in the unchanged sources."""
     print(f"comparison with --accepted {ACCEPTED} --damaged {DAMAGED} --far {ADVERSARIAL} --planes {PLANES} --floats {FLOATS}"
-          f" --seed {SEED}; of {CONVERTER} with {LISTS} lists, of {BENCH} with {RECORDS} records and the table's, of {FAR}, {SUMS} and"
-          f" {FINISHED} with their stored pictures")
+          f" --seed {SEED}; of {CONVERTER} with {LISTS} lists, of {BENCH} with {RECORDS} records and the table's, of {FAR}, {SUMS},"
+          f" {FINISHED}, {PIXELS} and {RECOVERED} with what is stored of them")
     found = [COMPARISONS[crate](folder) for crate, folder in unchanged.items()]
     for crate, what in zip(unchanged, found):
         print(f"the unchanged {crate}, unproved: {what or 'no difference'}", flush=True)

@@ -35,7 +35,7 @@ impl Options {
             damaged: 100_000,
             far: 100_000,
             planes: 100_000,
-            floats: 10_000_000,
+            floats: 30_000_000,
             seed: 20261115,
             threads: cores,
             shrink: true,

@@ -3,7 +3,7 @@
 # of the pictures and of random planes, and the way back from floats to samples:
 # compare/run.sh [SRC] [--accepted N] [--damaged N] [--far N] [--planes N] [--floats N] [--seed S] [--threads T]
 # SRC is the customer's folder docs/src, by default ../shared/docs/src seen from the repository's root. By default 100,000 accepted,
-# 100,000 damaged and 100,000 adversarial pictures, 100,000 pictures' planes and 10,000,000 floats from seed 20261115, on all cores, and as
+# 100,000 damaged and 100,000 adversarial pictures, 100,000 pictures' planes and 30,000,000 floats from seed 20261115, on all cores, and as
 # many lists as accepted pictures.
 # Prints a tally. The status is 0 only where nothing differs; at the first difference the smallest picture found that shows it is printed
 # and written to target/compare/smallest, as a record that target/bin/picture_cases reads.

@@ -2,7 +2,8 @@
 
 The kit's `rattle-cases`, which `rt try` runs, lowers a program; a stand-in for its clang keeps the module that it is given and ends the
 build. From the module of a program that calls the library's functions a shared library is made, from that of convert_cells, of
-segment_bench, of far_pictures, of checksum_cases or of real_checksums the program. All of it stands under target/mutants.
+segment_bench, of far_pictures, of checksum_cases, of real_checksums, of pixel_cases or of float_cases the program. All of it stands
+under target/mutants.
 """
 
 import platform
@@ -16,7 +17,7 @@ from pathlib import Path
 ROOT = Path(__file__).resolve().parent.parent
 WORK = ROOT / "target" / "mutants"
 LIBRARY, CONVERTER, BENCH, FAR = "tinladle", "convert_cells", "segment_bench", "far_pictures"
-SUMS, FINISHED = "checksum_cases", "real_checksums"
+SUMS, FINISHED, PIXELS, RECOVERED = "checksum_cases", "real_checksums", "pixel_cases", "float_cases"
 CALLER = WORK / "caller" / "main.rt"
 
 # A program that reaches the library's functions. It only has to be compiled.
