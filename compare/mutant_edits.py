@@ -434,8 +434,8 @@ CHECKED = [
     Edit("tinladle/sums", "*place = place_of(verdict);", "*place = place_of(verdict);\n            *sum_y = 0;"),
     Edit("tinladle/sums", "*sum_y = luma;\n            0", "*sum_y = luma;\n            *sum_cb = 0;\n            0"),
     Edit("tinladle/sums", "*sum_cb = blue;\n            *sum_cr = red;", "*sum_cb = red;\n            *sum_cr = blue;"),
-    Edit("tinladle/sums", "        luma_depth: luma_depth,\n        chroma_depth: chroma_depth,\n",
-         "        luma_depth: chroma_depth,\n        chroma_depth: luma_depth,\n"),
+    Edit("tinladle/sums", "planes_settings(width, height, chroma_format, luma_depth, chroma_depth)",
+         "planes_settings(width, height, chroma_format, chroma_depth, luma_depth)"),
 ]
 
 # What the programs print of them: Cb and Cr exchanged, of given planes and of finished ones; the originals for the finished planes; a
@@ -538,8 +538,8 @@ ASKED = [
     Edit("tinladle/pixels", "*luma = grey;", "*luma = grey;\n            *cb_part = grey;"),
     Edit("tinladle/pixels", "*cb_part = parts.cb;\n            *cr_part = parts.cr;",
          "*cb_part = parts.cr;\n            *cr_part = parts.cb;"),
-    Edit("tinladle/pixels", "        luma_depth: luma_depth,\n        chroma_depth: chroma_depth,\n",
-         "        luma_depth: chroma_depth,\n        chroma_depth: luma_depth,\n"),
+    Edit("tinladle/pixels", "planes_settings(width, height, chroma_format, luma_depth, chroma_depth)",
+         "planes_settings(width, height, chroma_format, chroma_depth, luma_depth)"),
     Edit("tinladle/pixels", "pixel_at(settings, y, cb, cr, column, row)", "pixel_at(settings, y, cb, cr, row, column)"),
 ]
 

@@ -198,7 +198,8 @@ uint32_t tinladle_checksum(
  *   1, 2, 3, 6, 10            as for tinladle_checksum, with their places
  *   14                        the pixel lies outside the picture         place 0
  *
- * Every call looks at every sample of the planes, for cause 10, so its cost is that of the checks.
+ * The planes that tinladle_deblock leaves of an accepted picture are refused nothing but a pixel outside. Every call
+ * looks at every sample of the planes, for cause 10, so its cost is that of the checks.
  *
  * What a caller owes is as above. luma, cb_part and cr_part are never null, in format 0 neither, and lie apart from one
  * another, from *place and from the planes. What they hold before the call may be anything, a NaN too.

@@ -1,4 +1,5 @@
+pub mod Checked
 pub mod Lines
-pub mod Segments
 pub mod Passes
 pub mod Pictures
+pub mod Segments

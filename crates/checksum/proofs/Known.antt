@@ -1,39 +1,14 @@
 -- That the answer means what it should: it goes by the planes, their sizes, format and depths alone; document 02's
 -- figure; and small planes worked out by hand.
-use Prim.Native.Nat.{ℕ}
 use mathlib.Core.Path.{_≡_, refl}
-use mathlib.Core.Bool.{false}
 use mathlib.Core.List.{[], _∷_}
-use lib.IntN.{pos}
 use lib.ListN.{replicate}
-use Rattle.picture.specs.Given.{planesOf}
+use Rattle.picture.specs.Given.{alone, planesOf}
 use Rattle.picture.specs.Ledger.{acceptance}
-use Rattle.picture.specs.Picture.{Picture, Planes, Settings}
+use Rattle.picture.specs.Picture.{Picture, Settings}
 use Rattle.picture.specs.Plane.{at}
 use Rattle.checksum.specs.Answer.{checksumAnswer}
 use Rattle.checksum.specs.Checksum.{checksum, exactSum, mask}
-
--- planes with their sizes, format and depths, and nothing else
-abbrev alone : ℕ → ℕ → ℕ → ℕ → ℕ → Planes → Picture
-alone width height format luma chroma planes = record {
-  width = width;
-  height = height;
-  settings =
-      record {
-        format = format;
-        luma-depth = luma;
-        chroma-depth = chroma;
-        log2-ctb = 0;
-        cb-offset = pos 0;
-        cr-offset = pos 0;
-        pcm-loop-filter-disabled = false;
-      };
-  originals = planes;
-  cells = [];
-  slices = [];
-  columns = [];
-  rows = [];
-}
 
 -- every picture is answered as its planes alone
 pub planes-alone : (p : Picture) →

@@ -5,7 +5,6 @@ use plane_view::plane_sample;
 use std::num::wrapping_add_u64;
 ghost use mathlib.Core.Path.{_≡_};
 ghost use Prim.Native.Nat.{_*_, _%_, _^_, _<_};
-ghost use lib.Bits.{bitXor};
 ghost use Rattle.picture.specs.Lent.{given};
 ghost use Rattle.fingerprint.specs.Fnv.{prime, step, withSample, withSamples, rowShown};
 ghost use Rattle.fingerprint.specs.Fnv.{listFingerprint, planeFingerprint};

@@ -23,19 +23,15 @@ Present whole = Unit {0}
 Present halved = Unit {0}
 Present absent = ⊥
 
+either-present : (t : Bool) (a b : Sampling) → Present a → Present b → Present (cond t a b)
+either-present true a b p q = p
+either-present false a b p q = q
+
 pub present-across : (format : ℕ) → (format ≡ 0 → ⊥) → Present (chromaAcross format)
-present-across format some = rw (ne-eqb format 0 some) (go (eqb format 3))
-  where
-    go : (t : Bool) → Present (cond t whole halved)
-    go true = tt
-    go false = tt
+present-across format some = rw (ne-eqb format 0 some) (either-present (eqb format 3) whole halved tt tt)
 
 pub present-down : (format : ℕ) → (format ≡ 0 → ⊥) → Present (chromaDown format)
-present-down format some = rw (ne-eqb format 0 some) (go (eqb format 1))
-  where
-    go : (t : Bool) → Present (cond t halved whole)
-    go true = tt
-    go false = tt
+present-down format some = rw (ne-eqb format 0 some) (either-present (eqb format 1) halved whole tt tt)
 
 -- what lies under a luma sample of the picture lies in the plane
 pub from-luma-less : (s : Sampling) → Present s → {n m : ℕ} → n < m → m % 8 ≡ 0 → fromLuma s n < fromLuma s m

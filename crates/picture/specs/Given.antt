@@ -1,7 +1,9 @@
 -- What a caller lends as a picture: the settings by value and the lists. The code's struct Settings holds the sizes
 -- too.
 use Prim.Native.Nat.{ℕ}
+use mathlib.Core.Bool.{false}
 use mathlib.Core.List.{List, []}
+use lib.IntN.{pos}
 use Rattle.picture.specs.declared.Settings as Code
 use Rattle.picture.specs.Picture.{Picture, Planes, Settings}
 
@@ -39,3 +41,26 @@ ofPlanes s originals = pictureOf s originals [] [] [] []
 -- a picture of the settings alone
 abbrev pub bare : Code.Settings → Picture
 bare s = ofPlanes s (planesOf [] [] [])
+
+-- planes with their sizes, format and depths, and nothing else: what goes by these goes by the picture that has 0 and
+-- empty lists for all the rest
+abbrev pub alone : ℕ → ℕ → ℕ → ℕ → ℕ → Planes → Picture
+alone width height format luma chroma planes = record {
+  width = width;
+  height = height;
+  settings =
+      record {
+        format = format;
+        luma-depth = luma;
+        chroma-depth = chroma;
+        log2-ctb = 0;
+        cb-offset = pos 0;
+        cr-offset = pos 0;
+        pcm-loop-filter-disabled = false;
+      };
+  originals = planes;
+  cells = [];
+  slices = [];
+  columns = [];
+  rows = [];
+}

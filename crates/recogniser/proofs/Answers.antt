@@ -22,7 +22,7 @@ use Rattle.recogniser.specs.declared.Pixel.{Pixel}
 use Rattle.recogniser.specs.declared.Pixel.the-variants.{Colour, Grey}
 use Rattle.recogniser.specs.Pixel.{AllExactly, Answer, Answered, accepted, floatsOf, pixelAnswer, pixelLedger}
 use Rattle.recogniser.specs.Pixel.{partAt, pixelParts, under, verdictOf}
-use Rattle.recogniser.specs.WayBack.{WayBack, bad-depth, no-sample, refused, returned, the-sample}
+use Rattle.recogniser.specs.WayBack.{WayBack, no-sample, refused, returned, the-sample}
 
 -- ---- a pixel
 

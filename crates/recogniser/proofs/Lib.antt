@@ -1,3 +1,4 @@
 pub mod Answers
 mod Inside
+pub mod Known
 pub mod RoundTrip

@@ -2,15 +2,14 @@
 use mathlib.Core.Path.{_≡_, sym, ap, _∙_, subst}
 use mathlib.Core.Bool.{Bool, true}
 use mathlib.Core.List.{List, [], _∷_}
-use Prim.Native.Nat.{ℕ, _<_, _^_}
+use Prim.Native.Nat.{ℕ}
 use native.Mathlib.Omega.{arith}
 use lib.IntN.{pos}
 use lib.Ieee.{Float, nan, inf, fin}
-use Rattle.float_samples.specs.Fraction.{F32}
 use Rattle.float_samples.specs.OneToOne.{OneToOne}
 use Rattle.float_samples.specs.Sample.{DepthOk, Gives, partOf}
 use Rattle.float_samples.proofs.OneToOne.{all-one-to-one}
-use Rattle.recogniser.specs.RoundTrip.{RoundTrip, RoundTrips}
+use Rattle.recogniser.specs.RoundTrip.{RoundTrips}
 use Rattle.recogniser.specs.WayBack.{Answer, WayBack, bad-depth, no-sample, refused, returned, the-sample}
 
 -- a refusal is no sample, and two samples are two answers

@@ -9,9 +9,9 @@ use picture_text::bits_of;
 use picture_text::put_number;
 use recogniser::Recovered;
 use recogniser::sample_of;
-ghost use Prim.Native.Nat.{_^_, _≤_, _<_};
+ghost use Prim.Native.Nat.{_^_, _<_};
 ghost use mathlib.Core.Path.{_≡_};
-ghost use Rattle.float_samples.specs.Sample.{DepthOk, Gives, partOf};
+ghost use Rattle.float_samples.specs.Sample.{DepthOk, Gives};
 ghost use Rattle.sample_trips.specs.Trip.{patterns};
 
 // What is shown of the samples of a depth.

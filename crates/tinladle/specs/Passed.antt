@@ -1,8 +1,8 @@
 -- What C passes and gets: the settings one by one, as the struct that holds them, and the answer as numbers.
 use Prim.Native.Nat.{ℕ}
 use mathlib.Core.Path.{_≡_}
-use mathlib.Core.Bool.{Bool}
-use lib.IntN.{ℤ}
+use mathlib.Core.Bool.{Bool, false}
+use lib.IntN.{ℤ, pos}
 use Rattle.filter.specs.Finished.{outputs}
 use Rattle.picture.specs.declared.Settings as Code
 use Rattle.picture.specs.Causes.{verdict}
@@ -20,6 +20,11 @@ passed width height format luma-depth chroma-depth log2-ctb cb-offset cr-offset 
   «cr_qp_offset» = cr-offset;
   «pcm_loop_filter_disabled» = switch;
 }
+
+-- with planes alone; the others play no part (`planes-alone`, checksum/proofs/Known and recogniser/proofs/Known)
+abbrev pub passedPlanes : ℕ → ℕ → ℕ → ℕ → ℕ → Code.Settings
+passedPlanes width height format luma-depth chroma-depth =
+    passed width height format luma-depth chroma-depth 0 (pos 0) (pos 0) false
 
 -- the ledger's number and place for a picture and the planes that are lent, and what is left in those
 pub record Deblocked (p : Picture) (lent : Planes) (number place : ℕ) (left : Planes) : Type 0 where

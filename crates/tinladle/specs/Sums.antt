@@ -1,19 +1,10 @@
 -- What `tinladle_checksum` answers and leaves (document 02, C-11).
 use Prim.Native.Nat.{ℕ}
 use mathlib.Core.Path.{_≡_}
-use mathlib.Core.Bool.{false}
 use mathlib.Core.List.{List, _++_}
-use lib.IntN.{pos}
 use lib.ListN.{drop, length}
 use Rattle.checksum.specs.Answer.{checksumAnswer}
-use Rattle.picture.specs.declared.Settings as Code
 use Rattle.picture.specs.Picture.{Picture}
-use Rattle.tinladle.specs.Passed.{passed}
-
--- what C passes of the settings; the others play no part (`planes-alone`, checksum/proofs/Known)
-abbrev pub passedPlanes : ℕ → ℕ → ℕ → ℕ → ℕ → Code.Settings
-passedPlanes width height format luma-depth chroma-depth =
-    passed width height format luma-depth chroma-depth 0 (pos 0) (pos 0) false
 
 -- the number and the place of a picture's planes, and in the three lent places the sums: where there is one sum, or
 -- none, the others are as they were

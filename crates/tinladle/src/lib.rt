@@ -2,6 +2,7 @@
 // include/tinladle.h declares them.
 mod cells;
 mod deblock;
+mod passed;
 mod pixels;
 mod recovered;
 mod sums;

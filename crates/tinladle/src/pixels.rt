@@ -1,14 +1,14 @@
 // A pixel of planes that C lends, as floats.
+use crate::passed::planes_settings;
 use ledger::number_of;
 use ledger::place_of;
-use picture::Settings;
 use recogniser::Pixel;
 use recogniser::pixel_at;
 ghost use mathlib.Core.List.{[], _∷_};
 ghost use Rattle.picture.specs.Given.{ofPlanes};
 ghost use Rattle.picture.specs.Lent.{planesGiven};
 ghost use Rattle.tinladle.specs.Floats.{PixelStored};
-ghost use Rattle.tinladle.specs.Sums.{passedPlanes};
+ghost use Rattle.tinladle.specs.Passed.{passedPlanes};
 
 // The number is returned, 0 where the pixel is given, and the place is always stored. Of a monochrome picture luma
 // alone is stored.
@@ -34,17 +34,7 @@ pub extern "C" fn tinladle_pixel(
         column row (now (luma .entry) ∷ now («cb_part» .entry) ∷ now («cr_part» .entry) ∷ []) r (now (place .exit))
         (now (luma .exit) ∷ now («cb_part» .exit) ∷ now («cr_part» .exit) ∷ []) ⌝ }
 {
-    let settings = Settings {
-        width: width,
-        height: height,
-        chroma_format: chroma_format,
-        luma_depth: luma_depth,
-        chroma_depth: chroma_depth,
-        log2_ctb: 0,
-        cb_qp_offset: 0,
-        cr_qp_offset: 0,
-        pcm_loop_filter_disabled: false,
-    };
+    let settings = planes_settings(width, height, chroma_format, luma_depth, chroma_depth);
     let pixel = pixel_at(settings, y, cb, cr, column, row);
     *place = 0;
     match pixel {

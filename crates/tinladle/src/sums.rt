@@ -1,13 +1,14 @@
 // The picture checksums of planes that C lends.
+use crate::passed::planes_settings;
 use checksum::Checksums;
 use checksum::picture_checksums;
 use ledger::number_of;
 use ledger::place_of;
-use picture::Settings;
 ghost use mathlib.Core.List.{[], _∷_};
 ghost use Rattle.picture.specs.Given.{ofPlanes};
 ghost use Rattle.picture.specs.Lent.{planesGiven};
-ghost use Rattle.tinladle.specs.Sums.{Summed, passedPlanes};
+ghost use Rattle.tinladle.specs.Passed.{passedPlanes};
+ghost use Rattle.tinladle.specs.Sums.{Summed};
 
 // The number is returned, 0 where the planes are accepted, and the place is always stored. Sums are stored where there
 // are some: of a monochrome picture that of luma alone.
@@ -31,17 +32,7 @@ pub extern "C" fn tinladle_checksum(
         (now («sum_y» .entry) ∷ now («sum_cb» .entry) ∷ now («sum_cr» .entry) ∷ []) r (now (place .exit))
         (now («sum_y» .exit) ∷ now («sum_cb» .exit) ∷ now («sum_cr» .exit) ∷ []) ⌝ }
 {
-    let settings = Settings {
-        width: width,
-        height: height,
-        chroma_format: chroma_format,
-        luma_depth: luma_depth,
-        chroma_depth: chroma_depth,
-        log2_ctb: 0,
-        cb_qp_offset: 0,
-        cr_qp_offset: 0,
-        pcm_loop_filter_disabled: false,
-    };
+    let settings = planes_settings(width, height, chroma_format, luma_depth, chroma_depth);
     let answer = picture_checksums(settings, y, cb, cr);
     *place = 0;
     match answer {

@@ -1,6 +1,6 @@
 -- `with_sample` meets its contract: a sample inside goes into the product, and a place outside into nothing.
 -- Assumes nothing.
-use mathlib.Core.Path.{_≡_, refl}
+use mathlib.Core.Path.{refl}
 use borrow.Author.Needs.{needs}
 use Rattle.fingerprint.specs.Fnv.{withSample}
 use Rattle.fingerprint.proofs.with_sample.Statement.{statement}

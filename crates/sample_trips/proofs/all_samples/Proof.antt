@@ -1,10 +1,10 @@
--- `all_samples` meets its contract. The loop's invariant: the samples before this one came back, and their floats are in.
+-- `all_samples` meets its contract. The loop's invariant: the samples before this one came back, and their floats are
+-- in.
 -- Assumes nothing.
-use Prim.Native.Nat.{ℕ, _-_, _^_, _≤_, _<_}
+use Prim.Native.Nat.{_-_, _^_, _≤_, _<_}
 use mathlib.Core.Path.{_≡_, refl, ap, _∙_}
 use native.Mathlib.Omega.{arith}
 use borrow.Author.Needs.{needs}
-use Rattle.float_samples.specs.Sample.{DepthOk}
 use Rattle.sample_trips.specs.Trip.{patterns}
 use Rattle.sample_trips.proofs.Patterns.{few, in-range, more, none, past}
 use Rattle.sample_trips.proofs.all_samples.Statement.{statement}

@@ -10,7 +10,8 @@ returns : tie.Need-returns
 returns c =
     let luma = c .before in
     let t = luma .before .args .settings in
-    any-both (badDepth (t .«luma_depth»)) (badDepth (t .«chroma_depth»)) (luma .bad-depth .ensures) (c .bad-depth2 .ensures)
+    any-both (badDepth (t .«luma_depth»)) (badDepth (t .«chroma_depth»)) (luma .bad-depth .ensures)
+    (c .bad-depth2 .ensures)
 
 pub bad-depths-spec : {M : Type 1} → statement M
 bad-depths-spec = tie.close (tie.spec (λ c κs. search needs) (λ c κs. search needs) returns)

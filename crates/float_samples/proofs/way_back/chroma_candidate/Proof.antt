@@ -1,43 +1,37 @@
 -- `chroma_candidate` meets its contract: the whole number of the float or of its opposite, up or down from the middle.
 -- Assumes nothing.
+use Prim.Native.Nat.{ℕ, _+_, _-_, _≤_}
+use mathlib.Core.Bool.{true}
+use mathlib.Core.Path.{_≡_}
 use native.Mathlib.Nat.{not-le-of-lt}
 use lib.Ieee.{ofBits}
 use borrow.Author.Needs.{needs}
+use Rattle.float_samples.specs.Sample.{Gives}
 use Rattle.float_samples.proofs.Sides.{under, over}
 use Rattle.float_samples.proofs.way_back.chroma_candidate.Statement.{statement}
 use Rattle.float_samples.proofs.way_back.chroma_candidate.Tie as tie
 
-returns : tie.Need-returns
+-- below zero the sample is as far below the middle as the opposite's whole part says
+low : (c : tie.After-whole-part) (s : ℕ) →
+    let a = c .before .before in
+    let half = a .middle .result in
+    let n = c .whole-part .result in
+    Gives (a .before .args .depth) true s (a .before .args .value) → (n ≤ half) × (half - n ≡ s)
 unfolding ofBits
-returns c s g =
-    let side = c .before .before in
-    let a = side .before in
-    under _ _ _ _ (a .before .pre) (a .middle .ensures) s g (side .if1 .taken) (c .before .whole-part .ensures) .1
+low c s g =
+    let a = c .before .before in
+    under _ _ _ _ (a .before .pre) (a .middle .ensures) s g (c .before .if1 .taken) (c .whole-part .ensures)
 
-returns-2 : tie.Need-returns-2
+-- else as far above it as its own says
+high : (c : tie.After-whole-part2) (s : ℕ) →
+    let a = c .before .before in
+    let half = a .middle .result in
+    let n = c .whole-part2 .result in
+    Gives (a .before .args .depth) true s (a .before .args .value) → (n ≤ half) × (half + n ≡ s)
 unfolding ofBits
-returns-2 c s g =
-    let side = c .before .before in
-    let a = side .before in
-    let near = under _ _ _ _ (a .before .pre) (a .middle .ensures) s g (side .if1 .taken) (c .before .whole-part .ensures)
-    in
-    absurd (not-le-of-lt (c .if2 .left) (near .0))
-
-returns-3 : tie.Need-returns-3
-unfolding ofBits
-returns-3 c s g =
-    let side = c .before .before in
-    let a = side .before in
-    over _ _ _ _ (a .before .pre) (a .middle .ensures) s g (side .if1 .left) (c .before .whole-part2 .ensures) .1
-
-returns-4 : tie.Need-returns-4
-unfolding ofBits
-returns-4 c s g =
-    let side = c .before .before in
-    let a = side .before in
-    let near = over _ _ _ _ (a .before .pre) (a .middle .ensures) s g (side .if1 .left) (c .before .whole-part2 .ensures)
-    in
-    absurd (not-le-of-lt (c .if3 .left) (near .0))
+high c s g =
+    let a = c .before .before in
+    over _ _ _ _ (a .before .pre) (a .middle .ensures) s g (c .before .if1 .left) (c .whole-part2 .ensures)
 
 pub chroma-candidate-spec : {M : Type 1} → statement M
 chroma-candidate-spec =
@@ -46,9 +40,9 @@ chroma-candidate-spec =
     (λ c κs. search needs)
     (λ c. search needs)
     (λ c κs. search needs)
-    returns
-    returns-2
+    (λ c s g. low (c .before) s g .1)
+    (λ c s g. absurd (not-le-of-lt (c .if2 .left) (low (c .before) s g .0)))
     (λ c κs. search needs)
     (λ c. search needs)
-    returns-3
-    returns-4)
+    (λ c s g. high (c .before) s g .1)
+    (λ c s g. absurd (not-le-of-lt (c .if3 .left) (high (c .before) s g .0))))

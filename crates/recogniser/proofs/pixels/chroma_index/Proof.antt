@@ -1,7 +1,7 @@
 -- `chroma_index` meets its contract. A chroma plane is no larger than the luma plane, so that the index fits.
 -- Assumes nothing.
-use Prim.Native.Nat.{ℕ, _+_, _*_, _≤_}
-use mathlib.Core.Path.{_≡_, _∙_}
+use Prim.Native.Nat.{_+_, _*_}
+use mathlib.Core.Path.{_∙_}
 use borrow.Author.Needs.{needs}
 use Rattle.picture.specs.Scale.{chromaAcross, chromaDown}
 use Rattle.picture.proofs.Scale.{from-luma-most}

@@ -1,14 +1,14 @@
 -- `pixel_at` meets its contract: a refusal of the planes is the answer, else cause 14, else the parts.
 -- Assumes nothing.
 use Prim.Native.Nat.{_<_}
-use mathlib.Core.Path.{_≡_, refl, sym, ap, _∙_}
-use mathlib.Core.List.{List, []}
+use mathlib.Core.Path.{refl, sym, ap, _∙_}
+use mathlib.Core.List.{List}
 use native.Mathlib.Omega.{arith}
 use borrow.Author.Needs.{needs}
 use Rattle.picture.specs.Accepted.{GivenPlanesOk}
 use Rattle.picture.specs.Causes.{planesLedger}
 use Rattle.picture.specs.Given.{bare, ofPlanes, planesOf}
-use Rattle.picture.specs.Ledger.{Entry, acceptance, firstOf}
+use Rattle.picture.specs.Ledger.{Entry, firstOf}
 use Rattle.picture.specs.Picture.{Picture}
 use Rattle.picture.proofs.Accepted.{planes-by}
 use Rattle.picture.proofs.Ledger.{none-out, to-fact}
@@ -83,7 +83,8 @@ inside : (c : tie.Else1) →
 inside c =
     let b = c .before in
     let a = in14 b .args in
-    let h = none-out (outside (bare (a .settings)) (a .column) (a .row)) (sym (b .is-outside .ensures) ∙ c .if1 .left) in
+    let tests = outside (bare (a .settings)) (a .column) (a .row) in
+    let h = none-out tests (sym (b .is-outside .ensures) ∙ c .if1 .left) in
     search to-fact depth 1
 
 returns-3 : tie.Need-returns-3

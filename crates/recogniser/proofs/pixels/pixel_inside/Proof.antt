@@ -2,7 +2,7 @@
 -- Assumes nothing.
 use Prim.Native.Nat.{ℕ, _≤_, _<_}
 use mathlib.Core.Bool.{true, false}
-use mathlib.Core.Path.{_≡_, sym, subst}
+use mathlib.Core.Path.{subst}
 use native.Mathlib.Omega.{arith}
 use borrow.Author.Needs.{needs}
 use lib.ListN.{length}
@@ -17,9 +17,13 @@ use Rattle.recogniser.proofs.Inside.{luma-depth, luma-in, luma-small, l
 use Rattle.recogniser.proofs.pixels.pixel_inside.Statement.{statement}
 use Rattle.recogniser.proofs.pixels.pixel_inside.Tie as tie
 
--- the ways back: from both sides of the test of the format to the luma sample's index, and from there to the call
+-- the ways back: from the luma sample's index, and from before it, to the call; and from both sides of the test of the
+-- format to that index
+abbrev entry : tie.After-struct-known → tie.Start
+entry c = let known = c .before .before in known .before .before
+
 abbrev call : tie.After-index-of → tie.Start
-call c = let known = c .before .before in known .before .before .before
+call c = entry (c .before)
 
 abbrev mono : tie.Then1 → tie.After-index-of
 mono c = c .before .before .before
@@ -118,7 +122,7 @@ pixel-inside-spec =
     tie.close
     (tie.spec
     (λ c. search needs)
-    (λ c κs. small (c .before .before .before .before))
+    (λ c κs. small (entry c))
     mul-luma
     (λ c. in-luma (c .before))
     part-requires

@@ -1,6 +1,5 @@
 -- `tinladle_sample` meets its contract, by what the float is answered with.
 -- Assumes nothing.
-use denote.Ref.{now}
 use mathlib.Core.Path.{refl}
 use borrow.Author.Needs.{needs}
 use Rattle.tinladle.proofs.Answered.{sample-by}

@@ -6,10 +6,11 @@ use mathlib.Core.List.{List, [], _∷_}
 use mathlib.Core.Path.{_≡_, refl, sym, ap, _∙_}
 use borrow.Author.Needs.{needs}
 use Rattle.checksum.specs.Answer.{answerOf, checksumAnswer}
+use Rattle.picture.specs.declared.Settings as Code
 use Rattle.picture.specs.Given.{ofPlanes}
 use Rattle.picture.specs.Lent.{planesNow}
 use Rattle.picture.specs.Picture.{Picture}
-use Rattle.tinladle.specs.Sums.{passedPlanes}
+use Rattle.tinladle.specs.Passed.{passedPlanes}
 use Rattle.tinladle.proofs.Answered.{summed-by}
 use Rattle.tinladle.proofs.sums.tinladle_checksum.Statement.{statement}
 use Rattle.tinladle.proofs.sums.tinladle_checksum.Tie as tie
@@ -24,13 +25,20 @@ picture s =
 abbrev lent : tie.Start → List ℕ
 lent s = now (s .args .sum-y) ∷ now (s .args .sum-cb) ∷ now (s .args .sum-cr) ∷ []
 
--- the way back to the call
+-- the ways back: to the settings, and to the call
+abbrev made : tie.After-picture-checksums → tie.After-planes-settings
+made c = c .before
+
 abbrev call : tie.After-picture-checksums → tie.Start
-call c = let known = c .before .before in known .before .before
+call c = let known = made c .before .before in known .before .before
 
 -- what the planes were answered with
 said : (c : tie.After-picture-checksums) → answerOf (c .picture-checksums .result) ≡ checksumAnswer (picture (call c))
-said c = c .picture-checksums .ensures
+said c =
+    let a = call c .args in
+    c .picture-checksums .ensures
+    ∙ ap (λ (t : Code.Settings). checksumAnswer (ofPlanes t (planesNow (a .y) (a .cb) (a .cr))))
+    (made c .planes-settings .ensures)
 
 returns : tie.Need-returns
 returns c =
@@ -55,6 +63,7 @@ pub tinladle-checksum-spec : {M : Type 1} → statement M
 tinladle-checksum-spec =
     tie.close
     (tie.spec
+    (λ c κs. search needs)
     (λ c κs. search needs)
     (λ c. search needs)
     (λ c κs. search needs)
