@@ -19,12 +19,12 @@ const BLOCK: u32 = 64;
 /// Blocks of the samples of all depths from 8 to 16.
 pub const BLOCKS: u64 = ((1 << 17) - (1 << 8)) / BLOCK as u64;
 
-/// One float on both sides; number and place.
-pub fn check(depth: u32, chroma: bool, bits: u32, word: u64) -> Result<Verdict, String> {
+/// One float on both sides: number and place, and the sample where there is one.
+pub fn check(depth: u32, chroma: bool, bits: u32, word: u64) -> Result<(Verdict, Option<u16>), String> {
     let (verdict, sample) = recogniser::recovered(bits, depth, chroma);
     let answer = ours::sample(depth, chroma, bits, word)?;
     if (answer.number, answer.place) == verdict && answer.sample == sample.unwrap_or(answer.junk) {
-        return Ok(verdict);
+        return Ok((verdict, sample));
     }
     let found = format!("{}, place {}, sample {}", answer.number, answer.place, answer.sample);
     let wanted = match sample {
@@ -71,11 +71,13 @@ pub fn check_block(number: u64, random: &mut Random) -> Result<u64, String> {
     for (x, y) in (0..8).flat_map(|y| (0..8).map(move |x| (x, y))) {
         pixels::check(&picture, &picture.planes, (0, 0), (x, y), &mut lent, random)?;
         for (chroma, bits) in [false, true].into_iter().zip(recogniser::parts(&picture, &picture.planes, (x, y))) {
-            if check(depth, chroma, bits, random.next())? != (0, 0) {
-                return Err(format!("the second program refuses its own float {bits:08x} of {}, depth {depth}", kind(chroma)));
+            let went = picture.planes[usize::from(chroma)][(8 * y + x) as usize];
+            let (_, back) = check(depth, chroma, bits, random.next())?;
+            if back != Some(went) {
+                return Err(format!("sample {went} of {}, depth {depth}, comes back from {bits:08x} as {back:?}", kind(chroma)));
             }
             for bits in beside(bits) {
-                refused += u64::from(check(depth, chroma, bits, random.next())? == (15, 0));
+                refused += u64::from(check(depth, chroma, bits, random.next())?.0 == (15, 0));
             }
         }
     }
@@ -109,7 +111,7 @@ pub fn check_batch(count: u64, random: &mut Random) -> Result<Vec<(u32, bool, Ve
     for _ in 0..count {
         let (depth, chroma) = (depth(random), random.chance(50));
         let bits = bits(random, depth, chroma);
-        found.push((depth, chroma, check(depth, chroma, bits, random.next())?));
+        found.push((depth, chroma, check(depth, chroma, bits, random.next())?.0));
     }
     Ok(found)
 }
@@ -131,7 +133,7 @@ fn taken(depth: u32, chroma: bool, threads: u64) -> Result<u64, String> {
             }
             for bits in first..first + PART {
                 let word = bits.wrapping_mul(0x9E37_79B9_7F4A_7C15);
-                count += u64::from(check(depth, chroma, bits as u32, word)? == (0, 0));
+                count += u64::from(check(depth, chroma, bits as u32, word)?.0 == (0, 0));
             }
         }
     };

@@ -226,7 +226,9 @@ uint32_t tinladle_pixel(
  * Of the floats exactly 2^depth are taken, one for each sample, and that sample is returned. Every other has 15: a NaN,
  * the infinities, -0.0, what lies between two samples by however little, and what lies outside their range.
  *
- * sample and place are never null and lie apart; chroma is 0 or 1 in its byte, as every bool of C is.
+ * What a caller owes is as above: sample and place are never null and lie apart, and chroma is 0 or 1 in its byte.
+ * tinladle_pixel and tinladle_sample run in the floating-point environment that a C program begins with: rounding to
+ * nearest, no exception trapped (a float that is refused may set the flags of some).
  */
 uint32_t tinladle_sample(uint32_t depth, bool chroma, float value, uint16_t *sample, uint64_t *place);
 

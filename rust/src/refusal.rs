@@ -7,7 +7,7 @@ use std::fmt;
 /// compiler then asks for its words.
 macro_rules! causes {
     ($($(#[$note:meta])* $name:ident = $number:literal,)*) => {
-        /// The causes of a refusal, each with its own number, by which they are looked for in order.
+        /// The causes of a refusal, each with its own number; they are looked for in the order of the numbers.
         /// [`deblock`](crate::deblock) looks for 1 to 10, [`checksum`](crate::checksum) for 1, 2, 3, 6 and 10,
         /// [`pixel`](crate::pixel) for these and then 14, [`sample`](crate::sample) for 3 and then 15.
         #[derive(Clone, Copy, Debug, PartialEq, Eq, Hash, PartialOrd, Ord)]

@@ -153,7 +153,7 @@ fn the_checksums_in_the_crates_readme_are_those_of_the_planes() {
 }
 
 #[test]
-fn the_pixel_in_the_crates_readme_is_that_of_the_planes() {
+fn the_pixel_in_both_readmes_is_that_of_the_planes() {
     let at = with_the_example("example_pixel");
     let [before, after] = FILES;
     assert_eq!(tinladle(&at, &["deblock", before, after]).status, 0);
@@ -161,6 +161,8 @@ fn the_pixel_in_the_crates_readme_is_that_of_the_planes() {
     assert_eq!((ran.status, ran.err.as_str()), (0, ""));
     let shown = OF_THE_CRATE.contains(&format!("```text\n{}```\n", ran.out));
     assert!(shown, "not in README.md as it is:\n{}", ran.out);
+    let indented: String = ran.out.lines().map(|line| format!("    {line}\n")).collect();
+    assert!(README.contains(&format!(" 65 110\n{indented}")), "not in the README.md of the root:\n{}", ran.out);
     // 192 columns of luma in 4:2:0, at depth 8: over column 32, row 55 of chroma.
     let finished = run(&shipped()).unwrap();
     let samples = [finished.y[110 * 192 + 65], finished.cb[55 * 96 + 32], finished.cr[55 * 96 + 32]];

@@ -1,5 +1,5 @@
--- What the stage leaves of an accepted picture passes the checks of planes alone (document 02, C-11): the finished planes
--- have their exact lengths, and no sample leaves its range.
+-- What the stage leaves of an accepted picture passes the checks of planes alone (document 02, C-11): the finished
+-- planes have their exact lengths, and no sample leaves its range.
 use Prim.Native.Nat.{ℕ, zero, suc, _*_, _/_, _%_, _≤_, _<_}
 use mathlib.Core.Path.{_≡_, sym, subst}
 use native.Mathlib.Nat.{div-add-mod', div-lt-iff-lt-mul, mod-lt, mul-comm, mul-zero}

@@ -1,6 +1,6 @@
--- FNV-1a of 64 bits, with a 16-bit sample in place of a byte: "hash = offset_basis; for each octet_of_data to be
--- hashed: hash = hash xor octet_of_data; hash = hash * FNV_prime", modulo 2^64.
-use Prim.Native.Nat.{ℕ, _+_, _*_, _%_, _^_}
+-- FNV-1a of 64 bits, with a sample or another number in place of a byte: "hash = offset_basis; for each octet_of_data
+-- to be hashed: hash = hash xor octet_of_data; hash = hash * FNV_prime", modulo 2^64.
+use Prim.Native.Nat.{ℕ, _*_, _%_, _^_}
 use mathlib.Core.Bool.{cond}
 use mathlib.Core.List.{List, [], _∷_}
 use lib.Bits.{bitXor}
@@ -16,9 +16,9 @@ basis = 14695981039346656037
 abbrev pub prime : ℕ
 prime = 1099511628211
 
--- the number h with one more sample
+-- the hash h with one more number
 unfoldable pub step : ℕ → ℕ → ℕ
-step h sample = (bitXor h sample * prime) % 2 ^ 64
+step h n = (bitXor h n * prime) % 2 ^ 64
 
 -- with what was read at a place of a plane: a place outside adds nothing
 unfoldable pub withSample : ℕ → Sample → ℕ

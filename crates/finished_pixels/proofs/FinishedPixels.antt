@@ -20,7 +20,8 @@ use Rattle.picture.proofs.Accepted.{accepted-by}
 use Rattle.picture.proofs.Ledger.{good-out, none-in}
 use Rattle.picture.proofs.Scale.{from-luma-less, present-across, present-down}
 use Rattle.ledger.proofs.Answers.{all-left, answers, goes-on, goes-past-all}
-use Rattle.recogniser.specs.Pixel.{Answer, cause14, isChroma, outside, partAt, pixelAnswer, pixelLedger, pixelParts}
+use Rattle.recogniser.specs.Pixel.{Answer, cause14, greyOrColour, isChroma, isMonochrome, outside, partAt}
+use Rattle.recogniser.specs.Pixel.{pixelAnswer, pixelLedger, pixelParts}
 use Rattle.finished_pixels.specs.FinishedPixels.{FinishedPixels, finishedPart, finishedParts}
 
 module _ (p : Picture) (lent : Planes) (e : verdict p lent ≡ acceptance) (column row : ℕ) (x : column < p .width)
@@ -38,7 +39,8 @@ module _ (p : Picture) (lent : Planes) (e : verdict p lent ≡ acceptance) (colu
       let planes =
       good-out (planesLedger q) (omega arith) (ap (λ (v : Verdict). v .number) (outputs-checked p lent e)) in
       let past = goes-past-all (planesLedger q) (cause14 q column row) planes (all-left (pixelLedger q column row)) in
-      answers (goes-on tests refl past (none-in tests (lt-leb (p .width) column x, (lt-leb (p .height) row y, tt)))) refl
+      let inside = none-in tests (lt-leb (p .width) column x, (lt-leb (p .height) row y, tt)) in
+      answers (goes-on tests refl past inside) refl
 
   -- the sample under the pixel is the finished one
   part : (c : Component) → across (p .settings) c column < planeWidth p c → down (p .settings) c row < planeHeight p c
@@ -63,16 +65,13 @@ module _ (p : Picture) (lent : Planes) (e : verdict p lent ≡ acceptance) (colu
         from-luma-less (chromaDown f) (present-down f some) y (accepted-by p lent e .picture .height .eights)
 
   parts : pixelParts q column row ≡ finishedParts p column row
-  parts = go (eqb (p .settings .format) 0) (eqb-false (p .settings .format) 0)
+  parts = go (isMonochrome p) (eqb-false (p .settings .format) 0)
     where
       one : partAt q column row Y ≡ finishedPart p column row Y
       one = part Y x y
 
       go : (mono : Bool) → (mono ≡ false → p .settings .format ≡ 0 → ⊥)
-          → let given = partAt q column row in
-          let finished = finishedPart p column row in
-          cond mono (given Y ∷ []) (given Y ∷ given Cb ∷ given Cr ∷ [])
-          ≡ cond mono (finished Y ∷ []) (finished Y ∷ finished Cb ∷ finished Cr ∷ [])
+          → greyOrColour mono (partAt q column row) ≡ greyOrColour mono (finishedPart p column row)
       go true none = λ i. one i ∷ []
       go false none =
           let some = none refl in

@@ -3,17 +3,15 @@
 -- a call of the one and then of the other.
 use Prim.Native.Nat.{ℕ, _<_}
 use mathlib.Core.Path.{_≡_}
-use mathlib.Core.Bool.{cond}
-use mathlib.Core.List.{List, [], _∷_}
-use lib.Dec.{eqb}
+use mathlib.Core.List.{List}
 use Rattle.filter.specs.Finished.{finishedPlane, outputs}
 use Rattle.float_samples.specs.Fraction.{Fraction}
 use Rattle.float_samples.specs.Sample.{fractionOf}
 use Rattle.picture.specs.Causes.{verdict}
 use Rattle.picture.specs.Ledger.{acceptance}
 use Rattle.picture.specs.Picture.{Picture, Planes, across, depthOf, down, withPlanes}
-use Rattle.picture.specs.Scale.{Component, Y, Cb, Cr}
-use Rattle.recogniser.specs.Pixel.{isChroma, pixelAnswer}
+use Rattle.picture.specs.Scale.{Component}
+use Rattle.recogniser.specs.Pixel.{greyOrColour, isChroma, isMonochrome, pixelAnswer}
 
 -- the fraction of the sample under the pixel, as clause 8.7.2 leaves it
 abbrev pub finishedPart : Picture → ℕ → ℕ → Component → Fraction
@@ -23,9 +21,7 @@ finishedPart p column row c =
 
 -- "grey (monochrome sheets) or colour with three parts"
 abbrev pub finishedParts : Picture → ℕ → ℕ → List Fraction
-finishedParts p column row =
-    let part : Component → Fraction = finishedPart p column row in
-    cond (eqb (p .settings .format) 0) (part Y ∷ []) (part Y ∷ part Cb ∷ part Cr ∷ [])
+finishedParts p column row = greyOrColour (isMonochrome p) (finishedPart p column row)
 
 -- of every accepted picture, every pixel of what the stage leaves is given, and its parts are those
 abbrev pub FinishedPixels : Type 0

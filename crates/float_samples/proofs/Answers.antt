@@ -15,8 +15,8 @@ use Rattle.float_samples.proofs.Exact.{exact-is-number, one-float}
 pub same-sample : (a b : ℕ) → Sample a ≡ Sample b → a ≡ b
 same-sample a b e = cc
 
-pub no-sample : (s : ℕ) → Nothing ≡ Sample s → ⊥
-no-sample s e = let z : _≡_ {A = ℕ} 0 1 = cc in omega arith
+pub no-sample-is : (s : ℕ) → Nothing ≡ Sample s → ⊥
+no-sample-is s e = let z : _≡_ {A = ℕ} 0 1 = cc in omega arith
 
 abbrev Only : ℕ → Bool → Float → ℕ → Type 0
 Only d chroma x k = (s : ℕ) → Gives d chroma s x → k ≡ s
@@ -35,7 +35,7 @@ module _ (d : ℕ) (chroma : Bool) (x : Float) (k : ℕ) (only : Only d chroma x
   pub another : (y : Float) → Gives d chroma k y → F32 y → F32 x → (T (not (isNan y)) → y ≡ x → ⊥)
       → Finds d chroma x Nothing
   another y g p q differs = record {
-    only = λ s e. absurd (no-sample s e);
+    only = λ s e. absurd (no-sample-is s e);
     every = λ s h.
         let n = numerator d chroma k in
         let v = subst (λ (a : ℕ). Gives d chroma a x) (sym (only s h)) h in
@@ -45,6 +45,6 @@ module _ (d : ℕ) (chroma : Bool) (x : Float) (k : ℕ) (only : Only d chroma x
   -- k is no sample
   pub outside : 2 ^ d ≤ k → Finds d chroma x Nothing
   outside l = record {
-    only = λ s e. absurd (no-sample s e);
+    only = λ s e. absurd (no-sample-is s e);
     every = λ s h. absurd (not-le-of-lt (subst (λ (a : ℕ). a < 2 ^ d) (sym (only s h)) (h .range)) l);
   }

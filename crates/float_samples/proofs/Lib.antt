@@ -1,6 +1,6 @@
-mod Answers
+pub mod Answers
 mod Examples
 pub mod Exact
 mod Powers
 pub mod OneToOne
-mod Sides
+pub mod Sides

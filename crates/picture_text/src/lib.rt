@@ -1,5 +1,5 @@
 // The lines that the programs on stored pictures print. oracle/README.md has their layout. What goes through io has no
-// contract: none of io's says what was written. Each function answers whether all was written.
+// contract: none of io's says what was written. Each function that writes answers whether all was written.
 mod farthest;
 mod floats;
 mod pictures;

@@ -1,28 +1,28 @@
 -- What is answered to a pixel and to a float, by what was found.
 use Prim.Native.Nat.{ℕ, _<_}
 use mathlib.Core.Path.{_≡_, refl, sym, ap, _∙_, subst}
-use mathlib.Core.Bool.{Bool, true, false, cond, false≢true}
-use mathlib.Core.List.{List, [], _∷_}
+use mathlib.Core.Bool.{Bool, true, false, cond}
+use mathlib.Core.List.{[]}
 use native.Mathlib.Omega.{arith}
 use borrow.Author.Tests.{eq-eqb, ne-eqb}
 use lib.Dec.{eqb}
 use lib.Ieee.{Float}
 use Rattle.picture.specs.Causes.{badDepth}
-use Rattle.picture.specs.Ledger.{Verdict, acceptance, anyOf, firstOf}
+use Rattle.picture.specs.Ledger.{Verdict, acceptance, firstOf}
 use Rattle.picture.specs.Picture.{Picture}
 use Rattle.picture.specs.Scale.{Y, Cb, Cr}
 use Rattle.picture.proofs.Ledger.{none-in, none-out, to-fact, to-test}
 use Rattle.float_samples.specs.declared.Found.{Found}
 use Rattle.float_samples.specs.declared.Found.the-variants.{Nothing, Sample}
 use Rattle.float_samples.specs.Found.{Finds}
-use Rattle.float_samples.specs.Fraction.{Fraction}
 use Rattle.float_samples.specs.Sample.{DepthOk, Gives}
+use Rattle.float_samples.proofs.Answers.{no-sample-is}
 use Rattle.float_samples.specs.declared.Colour as Declared
 use Rattle.recogniser.specs.declared.Pixel.{Pixel}
 use Rattle.recogniser.specs.declared.Pixel.the-variants.{Colour, Grey}
 use Rattle.recogniser.specs.Pixel.{AllExactly, Answer, Answered, accepted, floatsOf, pixelAnswer, pixelLedger}
-use Rattle.recogniser.specs.Pixel.{partAt, pixelParts, under, verdictOf}
-use Rattle.recogniser.specs.WayBack.{WayBack, no-sample, refused, returned, the-sample}
+use Rattle.recogniser.specs.Pixel.{greyOrColour, isMonochrome, partAt, pixelParts, under, verdictOf}
+use Rattle.recogniser.specs.WayBack.{WayBack, isBad, no-sample, refused, returned, the-sample}
 
 -- ---- a pixel
 
@@ -46,14 +46,11 @@ module _ (p : Picture) (column row : ℕ) where
   with-parts r e a = subst (Answered r) (ap told e) a
 
   -- grey of a monochrome picture, else colour
-  abbrev listed : Bool → List Fraction
-  listed mono = let part = partAt p column row in cond mono (part Y ∷ []) (part Y ∷ part Cb ∷ part Cr ∷ [])
-
-  answered : (r : Pixel) → verdictOf r ≡ acceptance → (mono : Bool) → eqb (p .settings .format) 0 ≡ mono
-      → AllExactly (floatsOf r) (listed mono) → Answered r (accepted p column row)
+  answered : (r : Pixel) → verdictOf r ≡ acceptance → (mono : Bool) → isMonochrome p ≡ mono
+      → AllExactly (floatsOf r) (greyOrColour mono (partAt p column row)) → Answered r (accepted p column row)
   answered r v mono e parts = record {
     verdict-is = v;
-    parts-are = subst (λ (b : Bool). AllExactly (floatsOf r) (listed b)) (sym e) parts;
+    parts-are = subst (λ (b : Bool). AllExactly (floatsOf r) (greyOrColour b (partAt p column row))) (sym e) parts;
   }
 
   pub grey : p .settings .format ≡ 0 → {x : Float} → Gives (p .settings .luma-depth) false (under p Y column row) x
@@ -71,20 +68,18 @@ module _ (p : Picture) (column row : ℕ) where
 
 -- ---- a float
 
--- a depth is outside 8 to 16, or is not
-pub depth-good : (depth : ℕ) → anyOf (badDepth depth) ≡ false → DepthOk depth
+-- what cause 3 says of a depth is what float_samples asks of it
+pub depth-good : (depth : ℕ) → isBad depth ≡ false → DepthOk depth
 depth-good depth e = let h = none-out (badDepth depth) e in search to-fact depth 1
 
-pub depth-bad : (depth : ℕ) → anyOf (badDepth depth) ≡ true → DepthOk depth → ⊥
-depth-bad depth e ok = false≢true (sym (none-in (badDepth depth) (search to-test depth 1)) ∙ e)
+pub depth-not-bad : (depth : ℕ) → DepthOk depth → isBad depth ≡ false
+depth-not-bad depth ok = none-in (badDepth depth) (search to-test depth 1)
 
 module _ (depth : ℕ) (chroma : Bool) (x : Float) where
-  no-sample-is : (s : ℕ) → Nothing ≡ Sample s → ⊥
-  no-sample-is s e = let z : _≡_ {A = ℕ} 0 1 = cc in omega arith
-
-  pub nothing : (r : Found) → DepthOk depth → Finds depth chroma x r → r ≡ Nothing → WayBack depth chroma x (refused 15)
+  pub nothing : (r : Found) → isBad depth ≡ false → Finds depth chroma x r → r ≡ Nothing
+      → WayBack depth chroma x (refused 15)
   nothing r ok f e = no-sample ok (λ s g. no-sample-is s (sym e ∙ f .every s g)) refl
 
-  pub found : (r : Found) {s : ℕ} → DepthOk depth → Finds depth chroma x r → r ≡ Sample s
+  pub found : (r : Found) {s : ℕ} → isBad depth ≡ false → Finds depth chroma x r → r ≡ Sample s
       → WayBack depth chroma x (returned s)
   found r {s} ok f e = the-sample ok s (f .only s e) refl

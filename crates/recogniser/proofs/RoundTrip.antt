@@ -1,6 +1,6 @@
 -- There and back: what a sample gives is taken back to it, and nothing else is taken.
 use mathlib.Core.Path.{_≡_, sym, ap, _∙_, subst}
-use mathlib.Core.Bool.{Bool, true}
+use mathlib.Core.Bool.{Bool, true, false, true≢false}
 use mathlib.Core.List.{List, [], _∷_}
 use Prim.Native.Nat.{ℕ}
 use native.Mathlib.Omega.{arith}
@@ -10,6 +10,7 @@ use Rattle.float_samples.specs.OneToOne.{OneToOne}
 use Rattle.float_samples.specs.Sample.{DepthOk, Gives, partOf}
 use Rattle.float_samples.proofs.OneToOne.{all-one-to-one}
 use Rattle.recogniser.specs.RoundTrip.{RoundTrips}
+use Rattle.recogniser.proofs.Answers.{depth-good, depth-not-bad}
 use Rattle.recogniser.specs.WayBack.{Answer, WayBack, bad-depth, no-sample, refused, returned, the-sample}
 
 -- a refusal is no sample, and two samples are two answers
@@ -23,10 +24,13 @@ first (s ∷ r) = s
 pub same-sample : {s t : ℕ} → returned s ≡ returned t → s ≡ t
 same-sample e = ap (λ (a : Answer). first (a .samples)) e
 
+clash : {b : Bool} → b ≡ true → b ≡ false → ⊥
+clash t f = true≢false (sym t ∙ f)
+
 module _ (depth : ℕ) (chroma : Bool) (x : Float) where
   pub taken-back : DepthOk depth → (s : ℕ) → Gives depth chroma s x → (a : Answer) → WayBack depth chroma x a
       → a ≡ returned s
-  taken-back ok s g a (bad-depth bad e) = absurd (bad ok)
+  taken-back ok s g a (bad-depth bad e) = absurd (clash bad (depth-not-bad depth ok))
   taken-back ok s g a (no-sample _ none e) = absurd (none s g)
   taken-back ok s g a (the-sample _ t h e) = e ∙ ap returned (all-one-to-one depth chroma ok .one-sample t s x h g)
 
@@ -37,16 +41,16 @@ module _ (depth : ℕ) (chroma : Bool) (x : Float) where
 
   refuses : DepthOk depth → ((s : ℕ) → Gives depth chroma s x → ⊥) → (a : Answer) → WayBack depth chroma x a
       → a ≡ refused 15
-  refuses ok none a (bad-depth bad e) = absurd (bad ok)
+  refuses ok none a (bad-depth bad e) = absurd (clash bad (depth-not-bad depth ok))
   refuses ok none a (no-sample _ _ e) = e
   refuses ok none a (the-sample _ t h e) = absurd (none t h)
 
   one-answer : (a b : Answer) → WayBack depth chroma x a → WayBack depth chroma x b → a ≡ b
   one-answer a b (bad-depth bad e) (bad-depth _ f) = e ∙ sym f
-  one-answer a b (bad-depth bad e) (no-sample ok _ f) = absurd (bad ok)
-  one-answer a b (bad-depth bad e) (the-sample ok _ _ f) = absurd (bad ok)
-  one-answer a b (no-sample ok none e) w = e ∙ sym (refuses ok none b w)
-  one-answer a b (the-sample ok s g e) w = e ∙ sym (taken-back ok s g b w)
+  one-answer a b (bad-depth bad e) (no-sample ok _ f) = absurd (clash bad ok)
+  one-answer a b (bad-depth bad e) (the-sample ok _ _ f) = absurd (clash bad ok)
+  one-answer a b (no-sample ok none e) w = e ∙ sym (refuses (depth-good depth ok) none b w)
+  one-answer a b (the-sample ok s g e) w = e ∙ sym (taken-back (depth-good depth ok) s g b w)
 
 pub round-trips : RoundTrips
 round-trips = record {

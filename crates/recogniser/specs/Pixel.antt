@@ -15,19 +15,6 @@ use Rattle.float_samples.specs.Sample.{fractionOf}
 use Rattle.recogniser.specs.declared.Pixel.the-variants.{Colour, Grey, Outside, Refused}
 use Rattle.recogniser.specs.declared.Pixel.{Pixel}
 
--- ---- the checks
-
--- "14 where it lies outside the sheet"
-abbrev pub outside : Picture → ℕ → ℕ → List Bool
-outside p column row = leb (p .width) column ∷ leb (p .height) row ∷ []
-
--- "Checks: for a pixel, those of C-11 and then new 14"; "14 and 15 have place 0"
-abbrev pub cause14 : Picture → ℕ → ℕ → List Entry
-cause14 p column row = entry 14 (once (outside p column row)) ∷ []
-
-abbrev pub pixelLedger : Picture → ℕ → ℕ → List Entry
-pixelLedger p column row = planesLedger p ++ cause14 p column row
-
 -- ---- the parts
 
 -- the sample of a plane at "the position under the pixel": column and row divided by the format's scales, rounded down
@@ -45,10 +32,27 @@ abbrev pub partAt : Picture → ℕ → ℕ → Component → Fraction
 partAt p column row c = fractionOf (depthOf (p .settings) c) (isChroma c) (under p c column row)
 
 -- "grey (monochrome sheets) or colour with three parts"
+abbrev pub greyOrColour : Bool → (Component → Fraction) → List Fraction
+greyOrColour monochrome part = cond monochrome (part Y ∷ []) (part Y ∷ part Cb ∷ part Cr ∷ [])
+
+abbrev pub isMonochrome : Picture → Bool
+isMonochrome p = eqb (p .settings .format) 0
+
 abbrev pub pixelParts : Picture → ℕ → ℕ → List Fraction
-pixelParts p column row =
-    let part : Component → Fraction = partAt p column row in
-    cond (eqb (p .settings .format) 0) (part Y ∷ []) (part Y ∷ part Cb ∷ part Cr ∷ [])
+pixelParts p column row = greyOrColour (isMonochrome p) (partAt p column row)
+
+-- ---- the checks
+
+-- "14 where it lies outside the sheet"
+abbrev pub outside : Picture → ℕ → ℕ → List Bool
+outside p column row = leb (p .width) column ∷ leb (p .height) row ∷ []
+
+-- "Checks: for a pixel, those of C-11 and then new 14"; "14 and 15 have place 0"
+abbrev pub cause14 : Picture → ℕ → ℕ → List Entry
+cause14 p column row = entry 14 (once (outside p column row)) ∷ []
+
+abbrev pub pixelLedger : Picture → ℕ → ℕ → List Entry
+pixelLedger p column row = planesLedger p ++ cause14 p column row
 
 -- ---- the answer: a number with its place, and the parts; a refusal has none
 

@@ -3,12 +3,14 @@
 -- sample gives; 14 and 15 have place 0."
 use Prim.Native.Nat.{ℕ}
 use mathlib.Core.Path.{_≡_}
-use mathlib.Core.Bool.{Bool}
+use mathlib.Core.Bool.{Bool, true, false}
 use mathlib.Core.List.{List, [], _∷_}
 use lib.Ieee.{Float}
+use Rattle.picture.specs.Causes.{badDepth}
 use Rattle.picture.specs.Ledger as Ledger
+use Rattle.picture.specs.Ledger.{anyOf}
 use Rattle.ledger.specs.Numbered.{refusal}
-use Rattle.float_samples.specs.Sample.{DepthOk, Gives}
+use Rattle.float_samples.specs.Sample.{Gives}
 use Rattle.recogniser.specs.declared.Recovered.the-variants.{Depth, NoSample, Sample}
 use Rattle.recogniser.specs.declared.Recovered.{Recovered}
 
@@ -29,9 +31,13 @@ answerOf Depth = refused 3
 answerOf NoSample = refused 15
 answerOf (Sample s) = returned s
 
+-- cause 3 of document 01, of this depth
+abbrev pub isBad : ℕ → Bool
+isBad depth = anyOf (badDepth depth)
+
 -- the answer that the request asks for
 module _ (depth : ℕ) (chroma : Bool) (value : Float) (a : Answer) where
   pub data WayBack : Type 0 where
-    bad-depth : (DepthOk depth → ⊥) → a ≡ refused 3 → WayBack
-    no-sample : DepthOk depth → ((s : ℕ) → Gives depth chroma s value → ⊥) → a ≡ refused 15 → WayBack
-    the-sample : DepthOk depth → (s : ℕ) → Gives depth chroma s value → a ≡ returned s → WayBack
+    bad-depth : isBad depth ≡ true → a ≡ refused 3 → WayBack
+    no-sample : isBad depth ≡ false → ((s : ℕ) → Gives depth chroma s value → ⊥) → a ≡ refused 15 → WayBack
+    the-sample : isBad depth ≡ false → (s : ℕ) → Gives depth chroma s value → a ≡ returned s → WayBack

@@ -1,12 +1,11 @@
 -- The floats of a depth, sample by sample.
 use Prim.Native.Nat.{ℕ, suc, _-_, _^_, _≤_, _<_}
 use mathlib.Core.Path.{_≡_, refl, ap, _∙_}
-use mathlib.Core.Bool.{Bool, true, false, not, cond}
-use native.Mathlib.Nat.{lt-of-lt-of-le}
+use mathlib.Core.Bool.{Bool, cond}
 use native.Mathlib.Omega.{arith}
-use lib.Dec.{T}
 use lib.Ieee.{Float, binary32, isNan, toBits}
-use lib.Pow.{pow-mono, pow-pos}
+use lib.Ieee.Bits.{cond-no}
+use lib.Pow.{pow-pos}
 use Rattle.fingerprint.specs.Fnv.{basis, step}
 use Rattle.float_samples.specs.Fraction.{F32}
 use Rattle.float_samples.specs.Sample.{DepthOk, Gives, numerator, partOf}
@@ -14,15 +13,12 @@ use Rattle.float_samples.proofs.Exact.{exact-is-number}
 use Rattle.float_samples.proofs.OneToOne.{all-one-to-one}
 use Rattle.sample_trips.specs.Trip.{patterns}
 
--- a sample up to the largest one is below 2^depth, and fits 16 bits
+-- a sample up to the largest one is below 2^depth
 pub in-range : (d s : ℕ) → s ≤ 2 ^ d - 1 → s < 2 ^ d
 in-range d s h = go (2 ^ d) (pow-pos d) h
   where
     go : (p : ℕ) → 0 < p → s ≤ p - 1 → s < p
     go p h k = omega arith
-
-pub few : (d s : ℕ) → DepthOk d → s < 2 ^ d → s < 65536
-few d s ok h = lt-of-lt-of-le h (pow-mono (ok .most))
 
 pub past : (d s : ℕ) → s ≤ 2 ^ d → 2 ^ d - 1 < s → s ≡ 2 ^ d
 past d s = go (2 ^ d) (pow-pos d)
@@ -41,10 +37,7 @@ module _ (d : ℕ) (chroma : Bool) where
   unfolding patterns
   more ok s x {h} {b} fits g e p =
       let shown : b ≡ toBits binary32 (partOf d chroma s) =
-      p ∙ number (isNan x) (exact-is-number x (numerator d chroma s) d (g .exact))
+      p
+      ∙ cond-no (isNan x) 2143289344 (toBits binary32 x) (exact-is-number x (numerator d chroma s) d (g .exact))
       ∙ ap (toBits binary32) (all-one-to-one d chroma ok .one-float s x fits g) in
       λ i. step (e i) (shown i)
-    where
-      number : (t : Bool) → T (not t) → cond t 2143289344 (toBits binary32 x) ≡ toBits binary32 x
-      number true n = absurd n
-      number false n = refl

@@ -68,11 +68,19 @@ fn put_trip(depth: u32, word: &[u8], trip: Trip) -> bool {
     io::write_all(STDOUT_FILENO, b"\n")
 }
 
+// Both lines of a depth.
+fn put_depth(depth: u32) -> bool
+    requires { ⌜ DepthOk depth ⌝ }
+{
+    if !put_trip(depth, b"luma ", all_samples(depth, false)) {
+        return false;
+    }
+    put_trip(depth, b"chroma ", all_samples(depth, true))
+}
+
 fn main() {
     let mut depth = 8;
-    while depth <= 16 {
-        put_trip(depth, b"luma ", all_samples(depth, false));
-        put_trip(depth, b"chroma ", all_samples(depth, true));
+    while depth <= 16 && put_depth(depth) {
         depth += 1;
     }
 }

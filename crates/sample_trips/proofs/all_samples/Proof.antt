@@ -5,8 +5,9 @@ use Prim.Native.Nat.{_-_, _^_, _≤_, _<_}
 use mathlib.Core.Path.{_≡_, refl, ap, _∙_}
 use native.Mathlib.Omega.{arith}
 use borrow.Author.Needs.{needs}
+use Rattle.float_samples.proofs.Sides.{small}
 use Rattle.sample_trips.specs.Trip.{patterns}
-use Rattle.sample_trips.proofs.Patterns.{few, in-range, more, none, past}
+use Rattle.sample_trips.proofs.Patterns.{in-range, more, none, past}
 use Rattle.sample_trips.proofs.all_samples.Statement.{statement}
 use Rattle.sample_trips.proofs.all_samples.Tie as tie
 
@@ -33,8 +34,8 @@ below c =
     let h = c .before in
     in-range (call h .args .depth) (h .loop .sample) (omega (arith, h .before .largest-at .ensures))
 
-small : (c : tie.In-loop Inv-loop μ-loop) → c .before .loop .sample < 65536
-small c = let h = c .before in few (call h .args .depth) (h .loop .sample) (call h .pre) (below c)
+fits : (c : tie.In-loop Inv-loop μ-loop) → c .before .loop .sample < 65536
+fits c = let h = c .before in small (call h .args .depth) (h .loop .sample) (call h .pre) (below c)
 
 comes-back-requires : tie.Need-comes-back-requires Inv-loop μ-loop
 comes-back-requires c κs =
@@ -72,14 +73,14 @@ all-samples-spec =
     (λ c κs. search needs)
     (λ c. search needs)
     (λ c. (omega arith, refl, none (c .before .args .depth) (c .before .args .chroma)))
-    (λ c. record { fits = omega (arith, small c) })
+    (λ c. record { fits = omega (arith, fits c) })
     (λ c κs. (call (c .before) .pre, below c))
     (λ c κs. search needs)
     (λ c κs. search needs)
-    (λ c. record { fits = omega (arith, small (begun (c .before .before))) })
+    (λ c. record { fits = omega (arith, fits (begun (c .before .before))) })
     comes-back-requires
-    (λ c. record { fits = omega (arith, c .comes-back .ensures, small (begun (parted c))) })
-    (λ c. record { fits = omega (arith, small (begun (parted c))) })
+    (λ c. record { fits = omega (arith, c .comes-back .ensures, fits (begun (parted c))) })
+    (λ c. record { fits = omega (arith, fits (begun (parted c))) })
     (λ c. omega (arith, below (begun (parted c))))
     loop-again
     returns)

@@ -7,10 +7,10 @@ use Rattle.sample_trips.proofs.main.Statement.{statement}
 use Rattle.sample_trips.proofs.main.Tie as tie
 
 abbrev Inv-loop : tie.InvT-loop
-Inv-loop depth₀ t2 t3 depth = 8 ≤ depth
+Inv-loop depth₀ depth = 8 ≤ depth
 
 abbrev μ-loop : tie.MeasureT-loop
-μ-loop depth₀ t2 t3 depth = 17 - depth
+μ-loop depth₀ depth = 17 - depth
 
 pub main-spec : {M : Type 1} → statement M
 main-spec =
@@ -19,13 +19,9 @@ main-spec =
     Inv-loop
     μ-loop
     (λ c. omega arith)
+    (λ c κs. search needs)
+    (λ c. omega arith)
+    (λ c. omega arith)
+    (λ c. omega arith)
     (λ c. search needs)
-    (λ c κs. search needs)
-    (λ c κs. search needs)
-    (λ c. search needs)
-    (λ c κs. search needs)
-    (λ c κs. search needs)
-    (λ c. omega arith)
-    (λ c. omega arith)
-    (λ c. omega arith)
     (λ c. search needs))

@@ -4,20 +4,17 @@ use mathlib.Core.Bool.{Bool, true, false, not}
 use mathlib.Core.Path.{_≡_, refl}
 use lib.Dec.{T}
 use lib.Ieee.{isNan}
+use lib.Ieee.Bits.{is-false}
 use Rattle.float_samples.proofs.Exact.{is-number, no-number}
 use Rattle.picture_text.proofs.floats.bits_of.Statement.{statement}
 use Rattle.picture_text.proofs.floats.bits_of.Tie as tie
 
-is-true : (b : Bool) → (T (not b) → ⊥) → b ≡ true
-is-true true h = refl
-is-true false h = absurd (h tt)
-
-is-false : (b : Bool) → T (not b) → b ≡ false
-is-false true h = absurd h
-is-false false h = refl
+no-number-is : (b : Bool) → (T (not b) → ⊥) → b ≡ true
+no-number-is true h = refl
+no-number-is false h = absurd (h tt)
 
 returns : tie.Need-returns
-returns c = let x = c .before .args .x in rw (is-true (isNan x) (no-number x (c .if1 .taken))) refl
+returns c = let x = c .before .args .x in rw (no-number-is (isNan x) (no-number x (c .if1 .taken))) refl
 
 to-bits : tie.Need-float-to-bits-result
 to-bits c = is-number (c .before .args .x) (c .if1 .left)

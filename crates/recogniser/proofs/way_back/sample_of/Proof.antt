@@ -1,19 +1,16 @@
 -- `sample_of` meets its contract: a depth out of range is the answer, else what was found.
 -- Assumes nothing.
-use mathlib.Core.Path.{refl, sym, _∙_}
+use mathlib.Core.Bool.{false}
+use mathlib.Core.Path.{_≡_, refl, sym, _∙_}
 use borrow.Author.Needs.{needs}
-use Rattle.float_samples.specs.Sample.{DepthOk}
-use Rattle.recogniser.specs.WayBack.{bad-depth}
-use Rattle.recogniser.proofs.Answers.{depth-bad, depth-good, found, nothing}
+use Rattle.recogniser.specs.WayBack.{bad-depth, isBad}
+use Rattle.recogniser.proofs.Answers.{depth-good, found, nothing}
 use Rattle.recogniser.proofs.way_back.sample_of.Statement.{statement}
 use Rattle.recogniser.proofs.way_back.sample_of.Tie as tie
 
 -- the depth is allowed
-ok : (c : tie.Else1) → DepthOk (c .before .before .args .depth)
-ok c = depth-good _ (sym (c .before .bad-depth .ensures) ∙ c .if1 .left)
-
-returns : tie.Need-returns
-returns c = bad-depth (depth-bad _ (sym (c .before .bad-depth .ensures) ∙ c .if1 .taken)) refl
+ok : (c : tie.Else1) → isBad (c .before .before .args .depth) ≡ false
+ok c = sym (c .before .bad-depth .ensures) ∙ c .if1 .left
 
 returns-2 : tie.Need-returns-2
 returns-2 c =
@@ -30,8 +27,8 @@ sample-of-spec =
     tie.close
     (tie.spec
     (λ c κs. search needs)
-    returns
-    (λ c κs. ok c)
+    (λ c. bad-depth (sym (c .before .bad-depth .ensures) ∙ c .if1 .taken) refl)
+    (λ c κs. depth-good _ (ok c))
     (λ c. search needs)
     (λ c. search needs)
     returns-2
