@@ -12,6 +12,9 @@ use Rattle.recogniser.proofs.way_back.sample_of.Tie as tie
 ok : (c : tie.Else1) → isBad (c .before .before .args .depth) ≡ false
 ok c = sym (c .before .bad-depth .ensures) ∙ c .if1 .left
 
+returns : tie.Need-returns
+returns c = bad-depth (sym (c .before .bad-depth .ensures) ∙ c .if1 .taken) refl
+
 returns-2 : tie.Need-returns-2
 returns-2 c =
     let a = c .before .before .before in
@@ -27,7 +30,7 @@ sample-of-spec =
     tie.close
     (tie.spec
     (λ c κs. search needs)
-    (λ c. bad-depth (sym (c .before .bad-depth .ensures) ∙ c .if1 .taken) refl)
+    returns
     (λ c κs. depth-good _ (ok c))
     (λ c. search needs)
     (λ c. search needs)
