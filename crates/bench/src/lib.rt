@@ -1,4 +1,6 @@
 // The segment bench: the text that one 72-byte record prints.
+#![tactic(auto)]
+
 mod segment;
 
 ghost use Rattle.std.specs.Prelude.{◌≤◌, length};
@@ -10,7 +12,7 @@ use segment::put_segment;
 // Puts the text of a record at the start of `out`, and answers its length; none is longer than 25 + 4 * 48 bytes.
 // The input is what was left to read. Where that is more than a record, the first one counts.
 pub fn bench_text(input: &[u8], out: &mut [u8; 256]) -> usize
-    ensures puts { Puts out 0 (bench_text input.now) result }
+    ensures puts { Puts out.old out.new 0 (bench_text input.now) result }
     ensures upper_bound { result ≤ 256 }
 {
     put_text(input, out)
@@ -18,7 +20,7 @@ pub fn bench_text(input: &[u8], out: &mut [u8; 256]) -> usize
 
 fn put_text(input: &[u8], out: &mut [u8]) -> usize
     requires { 256 ≤ length out.old }
-    ensures puts { Puts out 0 (bench_text input.now) result }
+    ensures puts { Puts out.old out.new 0 (bench_text input.now) result }
     ensures upper_bound { result ≤ 256 }
 {
     if input.len() == 0 {
@@ -33,7 +35,7 @@ fn put_text(input: &[u8], out: &mut [u8]) -> usize
 // A whole record: its refusal, or its segment.
 fn put_record(input: &[u8], out: &mut [u8]) -> usize
     requires { (72 ≤ length input.now) × (256 ≤ length out.old) }
-    ensures puts { Puts out 0 (record_text input.now) result }
+    ensures puts { Puts out.old out.new 0 (record_text input.now) result }
     ensures upper_bound { result ≤ 256 }
 {
     let n = bench_record::refusal_of(input);

@@ -23,7 +23,7 @@ pub(crate) struct Thresholds {
 // tc, and 0 where bS is 0
 fn tc_of(tcs: &[u8; 1352], depth: u32, average: u8, bs: u8, offset: u8) -> u16
     requires tc_table { TcTable tcs.now }
-    requires le_depth { (8 ≤ depth) × (depth ≤ 16) }
+    requires depth_bound { (8 ≤ depth) × (depth ≤ 16) }
     requires average_bound { (average ≤ 64 + 51) × (bs ≤ 2) × (offset ≤ 12) }
     ensures { result ≡ tc_or_zero depth average bs offset }
 {
@@ -68,8 +68,8 @@ fn filtered(d: LumaDecision, t: Thresholds, l: Line) -> Line
 
 pub(crate) fn put_segment(input: &[u8], out: &mut [u8]) -> usize
     requires in_bounds { (72 ≤ length input.now) × (256 ≤ length out.old) }
-    requires input_value { refusal_of input.now ≡ 0 }
-    ensures puts { Puts out 0 (segment_text input.now) result }
+    requires accepted { refusal_of input.now ≡ 0 }
+    ensures puts { Puts out.old out.new 0 (segment_text input.now) result }
     ensures upper_bound { result ≤ 256 }
 {
     let t = thresholds_of(bench_record::head_of(input));

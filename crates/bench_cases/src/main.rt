@@ -1,5 +1,7 @@
 // The segment bench on a list of records: each refusal, each table row, the ends of each decision, and a short last
 // record.
+#![tactic(auto)]
+
 fn main() {
     bench_run::run();
 }

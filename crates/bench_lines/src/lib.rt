@@ -1,5 +1,7 @@
 // The lines of text that the segment bench prints, each put at `at` of a lent buffer. A function answers the place
 // past its text.
+#![tactic(auto)]
+
 ghost use Rattle.std.specs.Prelude.{◌+◌, ◌≤◌, length};
 ghost use Rattle.text.specs.Text.{Puts};
 ghost use Rattle.lines.specs.Answer.{values_of};
@@ -18,7 +20,7 @@ use text::{put_bytes, put_number_then};
 
 fn put_word(out: &mut [u8], at: usize, d: LumaDecision) -> usize
     requires { at + 7 ≤ length out.old }
-    ensures puts { Puts out at (word_text (values_of d).d_e) result }
+    ensures puts { Puts out.old out.new at (word_text (values_of d).d_e) result }
     ensures upper_bound { result ≤ at + 7 }
 {
     match d {
@@ -31,7 +33,7 @@ fn put_word(out: &mut [u8], at: usize, d: LumaDecision) -> usize
 // tc and both counts, to the end of the line.
 fn put_numbers(out: &mut [u8], at: usize, tc: u16, c: SideCounts) -> usize
     requires { at + 18 ≤ length out.old }
-    ensures puts { Puts out at (numbers_text tc c) result }
+    ensures puts { Puts out.old out.new at (numbers_text tc c) result }
     ensures upper_bound { result ≤ at + 18 }
 {
     let p = c.p as u16;
@@ -44,7 +46,7 @@ fn put_numbers(out: &mut [u8], at: usize, tc: u16, c: SideCounts) -> usize
 // The decision, tc and both counts.
 pub fn put_first(out: &mut [u8], at: usize, answer: LumaAnswer, tc: u16) -> usize
     requires { at + 25 ≤ length out.old }
-    ensures puts { Puts out at (first_text (values_of answer.decision).d_e tc answer.counts) result }
+    ensures puts { Puts out.old out.new at (first_text (values_of answer.decision).d_e tc answer.counts) result }
     ensures upper_bound { result ≤ at + 25 }
 {
     let decision = answer.decision;
@@ -55,7 +57,7 @@ pub fn put_first(out: &mut [u8], at: usize, answer: LumaAnswer, tc: u16) -> usiz
 
 fn put_four(out: &mut [u8], at: usize, a: u16, b: u16, c: u16, d: u16, last: u8) -> usize
     requires { at + 24 ≤ length out.old }
-    ensures puts { Puts out at (four_text a b c d last) result }
+    ensures puts { Puts out.old out.new at (four_text a b c d last) result }
     ensures upper_bound { result ≤ at + 24 }
 {
     let second = put_number_then(out, at, a, 32);
@@ -66,7 +68,7 @@ fn put_four(out: &mut [u8], at: usize, a: u16, b: u16, c: u16, d: u16, last: u8)
 
 fn put_line(out: &mut [u8], at: usize, l: Line) -> usize
     requires { at + 48 ≤ length out.old }
-    ensures puts { Puts out at (line_text l) result }
+    ensures puts { Puts out.old out.new at (line_text l) result }
     ensures upper_bound { result ≤ at + 48 }
 {
     let fifth = put_four(out, at, l.p3, l.p2, l.p1, l.p0, 32);
@@ -76,7 +78,7 @@ fn put_line(out: &mut [u8], at: usize, l: Line) -> usize
 // The four lines of a segment.
 pub fn put_lines(out: &mut [u8], at: usize, l0: Line, l1: Line, l2: Line, l3: Line) -> usize
     requires { at + 192 ≤ length out.old }
-    ensures puts { Puts out at (lines_text l0 l1 l2 l3) result }
+    ensures puts { Puts out.old out.new at (lines_text l0 l1 l2 l3) result }
     ensures upper_bound { result ≤ at + 192 }
 {
     let second = put_line(out, at, l0);
@@ -87,7 +89,7 @@ pub fn put_lines(out: &mut [u8], at: usize, l0: Line, l1: Line, l2: Line, l3: Li
 
 pub fn put_refusal(out: &mut [u8], at: usize, n: u16) -> usize
     requires { at + 14 ≤ length out.old }
-    ensures puts { Puts out at (refused_text n) result }
+    ensures puts { Puts out.old out.new at (refused_text n) result }
     ensures upper_bound { result ≤ at + 14 }
 {
     let next = put_bytes(out, at, b"refused ");

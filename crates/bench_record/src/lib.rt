@@ -1,4 +1,6 @@
 // One record of the segment bench: its bytes, its samples, and why it is refused.
+#![tactic(auto)]
+
 mod fields;
 mod refusal;
 

@@ -1,4 +1,6 @@
 // The loop of the segment bench: records from standard input, their texts to standard output.
+#![tactic(auto)]
+
 use libc::{STDIN_FILENO, STDOUT_FILENO};
 
 // Reads one record, writes its text, and answers whether to go on: not past the end of the input, which a record

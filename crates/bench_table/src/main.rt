@@ -1,4 +1,6 @@
 // The segment bench on every entry of the table of the luma tc, on negative averages, and one step past each end.
+#![tactic(auto)]
+
 fn main() {
     bench_run::run();
 }

@@ -79,7 +79,7 @@ pub fn bad_lengths(
 ) -> bool
     requires { (settings.width ≤ 8192) × (settings.height ≤ 8192) }
     ensures { result ≡ any_of (bad_lengths (lent_tests (bare settings) lent)
-        (picture_given settings y cb cr cells slices columns rows)) }
+        (picture_given settings y.now cb.now cr.now cells.now slices.now columns.now rows.now)) }
 {
     bad_planes(settings, y.len(), cb.len(), cr.len())
         | bad_lent(settings, lent)

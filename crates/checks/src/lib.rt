@@ -1,6 +1,8 @@
 // Causes 1 to 6 of the refusal ledger, document 01, each with a function that says whether it applies: what the
 // numbers and the lengths decide. Tests are joined by `|`, which tries them all: a good picture takes every one of
 // them anyway, and so no test is a branch.
+#![tactic(auto)]
+
 mod lengths;
 mod settings;
 

@@ -1,4 +1,6 @@
 // The picture checksum of H.265, Annex D (decoded picture hash), of finished planes (document 02, C-11).
+#![tactic(auto)]
+
 mod plane;
 mod planes;
 

@@ -1,7 +1,6 @@
 // The picture checksum of one plane: a u32 that starts at 0 and wraps, to which each sample's masked bytes are added.
 // Rows are walked in memory order, twice where the high parts join: a row stays in the cache.
 ghost use Rattle.std.specs.Prelude.{◌≡◌, ◌+◌, ◌*◌, ◌%◌, ◌^◌, ◌≤◌, length, bit_xor};
-ghost use Rattle.picture.specs.Lent.{given};
 ghost use Rattle.picture.specs.Plane.{at};
 ghost use Rattle.checksum.specs.Checksum.{checksum};
 ghost use Rattle.checksum.specs.Rows.{fold, part, parts_sum, row_sum};
@@ -37,7 +36,7 @@ fn with_byte(before: u32, byte: u32, mask: u32) -> u32
 // their masks.
 fn with_parts(before: u32, plane: &[u16], start: usize, width: u32, row: u32, high: bool) -> u32
     requires { start + width ≤ length plane.now }
-    ensures { result ≡ (before + parts_sum high (given plane) start width row) % 2 ^ 32 }
+    ensures { result ≡ (before + parts_sum high plane.now start width row) % 2 ^ 32 }
 {
     let mut sum = before;
     let mut x = 0;
@@ -52,7 +51,7 @@ fn with_parts(before: u32, plane: &[u16], start: usize, width: u32, row: u32, hi
 // With row y. Above depth 8 the samples have a high part.
 fn with_row(before: u32, plane: &[u16], width: u32, y: u32, depth: u32) -> u32
     requires { y * width + width ≤ length plane.now }
-    ensures { result ≡ (before + row_sum depth (at (given plane) width) width y) % 2 ^ 32 }
+    ensures { result ≡ (before + row_sum depth (at plane.now width) width y) % 2 ^ 32 }
 {
     let start = y as usize * width as usize;
     let row = folded(y);
@@ -66,7 +65,7 @@ fn with_row(before: u32, plane: &[u16], width: u32, y: u32, depth: u32) -> u32
 // Of a plane of this size and depth.
 pub(crate) fn plane_checksum(plane: &[u16], width: u32, height: u32, depth: u32) -> u32
     requires { length plane.now ≡ width * height }
-    ensures { result ≡ checksum depth width height (at (given plane) width) }
+    ensures { result ≡ checksum depth width height (at plane.now width) }
 {
     let mut sum = 0;
     let mut y = 0;

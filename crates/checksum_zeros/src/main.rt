@@ -1,5 +1,7 @@
 // The picture checksums of a built-in 8 by 8 picture of zeros, depth 8, 4:2:0, a line for each plane (document 02,
 // C-11).
+#![tactic(auto)]
+
 use checksum::{Checksums, picture_checksums};
 use picture::Settings;
 use picture_text::put_sum;

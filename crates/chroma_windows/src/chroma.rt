@@ -3,7 +3,6 @@ ghost use Rattle.std.specs.Prelude.{◌≡◌, [], ◌∷◌, ◌+◌, ◌*◌, 
 ghost use Rattle.filter.specs.Answer.{chroma_of};
 ghost use Rattle.filter.specs.Kernel.{kernel};
 ghost use Rattle.lines.specs.Chroma.{chroma_line};
-ghost use Rattle.picture.specs.Lent.{given, left};
 ghost use Rattle.planes.specs.Window.{Filtered, Put, Strides};
 ghost use Rattle.chroma_windows.specs.Line.{chroma_line_at};
 
@@ -13,7 +12,7 @@ use window_lines::put_row;
 
 fn take_chroma(s: &[u16], at: usize, step: usize) -> ChromaLine
     requires { at + 3 * step < length s.now }
-    ensures { result ≡ chroma_line_at (given s) at step }
+    ensures { result ≡ chroma_line_at s.now at step }
 {
     ChromaLine {
         p1: s[at],
@@ -26,14 +25,14 @@ fn take_chroma(s: &[u16], at: usize, step: usize) -> ChromaLine
 // The line from p1 at `at`, filtered.
 fn filtered_chroma(s: &[u16], at: usize, step: usize, t: ChromaFilter) -> ChromaLine
     requires { at + 3 * step < length s.now }
-    ensures { result ≡ chroma_line t.largest t.tc (chroma_line_at (given s) at step) }
+    ensures { result ≡ chroma_line t.largest t.tc (chroma_line_at s.now at step) }
 {
     chroma_line(t.largest, t.tc, take_chroma(s, at, step))
 }
 
 fn put_pair(s: &mut [u16], at: usize, p0: u16, q0: u16)
     requires { at + 1 < length s.old }
-    ensures { Put 2 at 1 (p0 ∷ q0 ∷ []) (given s) (left s) }
+    ensures { Put 2 at 1 (p0 ∷ q0 ∷ []) s.old s.new }
 {
     s[at] = p0;
     s[at + 1] = q0;
@@ -44,7 +43,7 @@ fn put_pair(s: &mut [u16], at: usize, p0: u16, q0: u16)
 pub fn horizontal_chroma(s: &mut [u16], base: usize, across: usize, t: ChromaFilter)
     requires across_in_bounds { base + 3 + 7 * across < length s.old }
     requires strides { Strides across 1 }
-    ensures { Filtered 4 (kernel (chroma_of t)) base across 1 (given s) (left s) }
+    ensures { Filtered 4 (kernel (chroma_of t)) base across 1 s.old s.new }
 {
     let at = base + 2 * across;
     let a = filtered_chroma(s, at, across, t);
@@ -59,7 +58,7 @@ pub fn horizontal_chroma(s: &mut [u16], base: usize, across: usize, t: ChromaFil
 pub fn vertical_chroma(s: &mut [u16], base: usize, along: usize, t: ChromaFilter)
     requires along_in_bounds { base + 3 * along + 7 < length s.old }
     requires strides { Strides 1 along }
-    ensures { Filtered 4 (kernel (chroma_of t)) base 1 along (given s) (left s) }
+    ensures { Filtered 4 (kernel (chroma_of t)) base 1 along s.old s.new }
 {
     for j in 0..4 {
         let at = base + j * along + 2;

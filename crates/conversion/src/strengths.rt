@@ -1,6 +1,5 @@
 // Strengths above 0 need their edge flag. Here those that have none are zeroed.
 ghost use Rattle.std.specs.Prelude.{◌+◌, ◌*◌, ◌≤◌, cond, ◌≡◌, eqb, length};
-ghost use Rattle.picture.specs.Lent.{given, left};
 ghost use Rattle.conversion.specs.Converted.{converted, converted_into};
 ghost use Rattle.conversion.specs.Steps.{record_converted};
 
@@ -14,7 +13,7 @@ fn kept(edge: bool, bs: u8) -> u8
 // Record n in place.
 fn convert_record(cells: &mut [u8], n: usize)
     requires { 8 * n + 8 ≤ length cells.old }
-    ensures { left cells ≡ record_converted (given cells) n }
+    ensures { cells.new ≡ record_converted cells.old n }
 {
     let at = 8 * n;
     let flags = cells[at + 1];
@@ -26,7 +25,7 @@ fn convert_record(cells: &mut [u8], n: usize)
 
 // All whole records in place.
 fn convert_records(cells: &mut [u8])
-    ensures { left cells ≡ converted (given cells) }
+    ensures { cells.new ≡ converted cells.old }
 {
     let mut n = 0;
     while n < cells.len() / 8 {
@@ -38,8 +37,8 @@ fn convert_records(cells: &mut [u8])
 // The list converted into another of the same length. Where the lengths differ the answer is false, and nothing is
 // written.
 pub fn convert_cells(cells: &[u8], out: &mut [u8]) -> bool
-    ensures value { result ≡ eqb (length (given cells)) (length (given out)) }
-    ensures out_value { left out ≡ converted_into (given cells) (given out) }
+    ensures value { result ≡ eqb (length cells.now) (length out.old) }
+    ensures written { out.new ≡ converted_into cells.now out.old }
 {
     if cells.len() != out.len() {
         return false;

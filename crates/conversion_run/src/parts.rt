@@ -1,7 +1,6 @@
 // The input, part by part.
 ghost use Rattle.std.specs.Prelude.{◌≤◌, min, ◌≡◌, length};
 ghost use Rattle.conversion.specs.Converted.{converted_into};
-ghost use Rattle.picture.specs.Lent.{given, left};
 
 use conversion::convert_cells;
 use libc::{STDERR_FILENO, STDIN_FILENO, STDOUT_FILENO};
@@ -11,7 +10,7 @@ const PART: usize = 32768;
 
 // One read, and how many bytes it gave: none at the end of the input, nor where it fails, which is said.
 fn read_some(list: &mut [u8]) -> usize
-    ensures { result ≤ length (given list) }
+    ensures { result ≤ length list.old }
 {
     let got = libc::read(STDIN_FILENO, &mut list[..]);
     if got < 0 {
@@ -23,7 +22,7 @@ fn read_some(list: &mut [u8]) -> usize
 // Fills the list as far as the input goes, and answers how far. The kit's `read_full` does so too, but takes a read
 // that fails for the end.
 fn fill(list: &mut [u8]) -> usize
-    ensures { result ≤ length (given list) }
+    ensures { result ≤ length list.old }
 {
     let mut done = 0;
     while done < list.len() {
@@ -38,7 +37,7 @@ fn fill(list: &mut [u8]) -> usize
 
 // Writes the list converted, by way of another as long; a write that fails is said. Answers whether all was written.
 fn put_converted(list: &[u8], made: &mut [u8]) -> bool
-    ensures { left made ≡ converted_into (given list) (given made) }
+    ensures { made.new ≡ converted_into list.now made.old }
 {
     convert_cells(list, &mut made[..]);
     let is_written = io::write_all(STDOUT_FILENO, made);

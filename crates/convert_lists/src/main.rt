@@ -1,5 +1,7 @@
 // The loop of convert_cells on many lists, each behind its length (two bytes, low first), in one run. Out come the
 // lengths, each with its converted list.
+#![tactic(auto)]
+
 use libc::{STDIN_FILENO, STDOUT_FILENO};
 
 // The number of two bytes.

@@ -2,7 +2,6 @@
 ghost use Rattle.std.specs.Prelude.{◌≡◌, ◌<◌};
 ghost use Rattle.filter.specs.Answer.{slice_gate};
 ghost use Rattle.picture.specs.Cell.{suppressed};
-ghost use Rattle.picture.specs.Lent.{given};
 ghost use Rattle.picture.specs.Slice.{slice_count};
 
 use crate::SliceGate;
@@ -11,7 +10,7 @@ use picture::{Cell, slice_at};
 // Q's slice decides: it must not be disabled, and must filter across unless P lies in it too.
 pub fn slice_gate(slices: &[u8], p: Cell, q: Cell) -> SliceGate
     requires { q.slice < slice_count slices.now }
-    ensures { result ≡ slice_gate (given slices) p q }
+    ensures { result ≡ slice_gate slices.now p q }
 {
     let s = slice_at(slices, q.slice as usize);
     if s.disabled {

@@ -1,5 +1,7 @@
 // What the records say of one segment, one cell and one band. The crate's specs define the whole filter; the passes
 // are above.
+#![tactic(auto)]
+
 mod bands;
 mod gate;
 mod parameters;

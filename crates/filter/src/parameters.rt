@@ -12,7 +12,7 @@ use thresholds::{average_qp, chroma_tc, luma_beta, luma_tc};
 pub fn luma_filter(tcs: &[u8; 1352], k: Component, p: Cell, q: Cell, s: Slice, bs: u8) -> LumaFilter
     requires sound { Sound k }
     requires tc_table { TcTable tcs.now }
-    requires le_bs { (1 ≤ bs) × SegmentInRange p q s bs }
+    requires in_range { (1 ≤ bs) × SegmentInRange p q s bs }
     ensures { luma_of result ≡ luma_filter k.depth p q s bs }
 {
     let average = average_qp(p.qp, q.qp);

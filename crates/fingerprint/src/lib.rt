@@ -1,7 +1,8 @@
 // A plane as one number: FNV-1a of 64 bits, a sample in place of a byte. The samples are read through the plane's
 // view.
+#![tactic(auto)]
+
 ghost use Rattle.std.specs.Prelude.{◌≡◌, ◌*◌, ◌%◌, ◌^◌, ◌<◌};
-ghost use Rattle.picture.specs.Lent.{given};
 ghost use Rattle.fingerprint.specs.Fnv.{prime, step, with_sample, with_samples, row_shown};
 ghost use Rattle.fingerprint.specs.Fnv.{list_fingerprint, plane_fingerprint};
 
@@ -40,7 +41,7 @@ fn with_sample(before: u64, read: Sample) -> u64
 // With the samples of row y.
 fn with_row(before: u64, plane: &[u16], width: usize, height: usize, y: usize) -> u64
     requires { y < height }
-    ensures { result ≡ with_samples before (row_shown (given plane) width height y) }
+    ensures { result ≡ with_samples before (row_shown plane.now width height y) }
 {
     let mut sum = before;
     let mut x = 0;
@@ -53,7 +54,7 @@ fn with_row(before: u64, plane: &[u16], width: usize, height: usize, y: usize) -
 
 // Of a plane of this size, row by row. Samples that are no plane of it show none, and have the basis.
 pub fn plane_fingerprint(plane: &[u16], width: usize, height: usize) -> u64
-    ensures { result ≡ plane_fingerprint (given plane) width height }
+    ensures { result ≡ plane_fingerprint plane.now width height }
 {
     let mut sum = BASIS;
     let mut y = 0;
@@ -66,7 +67,7 @@ pub fn plane_fingerprint(plane: &[u16], width: usize, height: usize) -> u64
 
 // Of all samples of a list, of whatever length: one row.
 pub fn fingerprint(list: &[u16]) -> u64
-    ensures { result ≡ list_fingerprint (given list) }
+    ensures { result ≡ list_fingerprint list.now }
 {
     plane_fingerprint(list, list.len(), 1)
 }

@@ -1,5 +1,7 @@
 // The way back of stored floats (document 02, C-22): records of three words from standard input, a line for each to
 // standard output. oracle/README.md has the layout of both.
+#![tactic(auto)]
+
 ghost use Rattle.std.specs.Prelude.{◌≡◌};
 ghost use Rattle.std.specs.Float.{binary32};
 ghost use Rattle.std.specs.Float.Ieee.{of_bits};

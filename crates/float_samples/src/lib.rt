@@ -1,4 +1,6 @@
 // Samples as 32-bit floats, exactly, and the way back from a float to its sample (document 02, C-22).
+#![tactic(auto)]
+
 mod parts;
 mod way_back;
 

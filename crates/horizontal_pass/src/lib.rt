@@ -1,10 +1,11 @@
 // The pass over a component's horizontal edges, in place: the strips of a band, the bands of a plane. It serves luma
 // and chroma.
+#![tactic(auto)]
+
 ghost use Rattle.std.specs.Prelude.{◌≡◌, ◌+◌, ◌-◌, ◌*◌, ◌%◌, ◌≤◌, ◌<◌, length};
 ghost use Rattle.filter.specs.Bands.{Seam};
 ghost use Rattle.filter.specs.Segment.{horizontal};
 ghost use Rattle.strips.specs.Passed.{pass_for};
-ghost use Rattle.picture.specs.Lent.{given, left};
 ghost use Rattle.picture.specs.Plane.{at};
 ghost use Rattle.planes.specs.Rows.{Holds, Rows, seen};
 ghost use Rattle.segments.specs.Ready.{Ready};
@@ -28,8 +29,8 @@ fn horizontal_band(
     requires ready { Ready k f cells.now slices.now tcs.now }
     requires s_len { (length s.old ≡ (row1 - row0) * f.columns) × (row0 ≤ row1) × (row1 ≤ f.rows) }
     requires seam { Seam f.rows row0 × Seam f.rows row1 }
-    ensures { Rows f.columns row0 row1 (left s)
-        (pass_for horizontal k f (given cells) (given slices) (given starts) (seen f.columns row0 (given s))) }
+    ensures { Rows f.columns row0 row1 s.new
+        (pass_for horizontal k f cells.now slices.now starts.now (seen f.columns row0 s.old)) }
 {
     let mut e = (row0 / 8 + 1) * 8;
     while e < row1 {
@@ -52,8 +53,8 @@ pub fn horizontal_pass(
 )
     requires ready { Ready k f cells.now slices.now tcs.now }
     requires s_len { length s.old ≡ f.rows * f.columns }
-    ensures { Holds f.columns f.rows (left s)
-        (pass_for horizontal k f (given cells) (given slices) (given starts) (at (given s) f.columns)) }
+    ensures { Holds f.columns f.rows s.new
+        (pass_for horizontal k f cells.now slices.now starts.now (at s.old f.columns)) }
 {
     let mut r = 0;
     while r < f.rows {

@@ -1,4 +1,6 @@
 // The refusal ledger of document 01: the ten checks in its order, of which the first that applies is the answer.
+#![tactic(auto)]
+
 mod lists;
 mod numbers;
 mod order;

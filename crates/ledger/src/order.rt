@@ -26,7 +26,7 @@ pub fn check(
     lent: OutputLengths,
 ) -> Verdict
     ensures { numbered result ≡ first_of (ledger (lent_tests (bare settings) lent) cell_rules
-        (picture_given settings y cb cr cells slices columns rows)) }
+        (picture_given settings y.now cb.now cr.now cells.now slices.now columns.now rows.now)) }
 {
     let answer = check_settings(settings);
     let Verdict::Accepted = answer else {

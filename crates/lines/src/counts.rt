@@ -27,8 +27,8 @@ fn counts_of(d: LumaDecision) -> SideCounts
 
 // A decision and its counts.
 pub fn with_counts(d: LumaDecision) -> LumaAnswer
-    ensures decision_value { result.decision ≡ d }
-    ensures counts_value { result.counts ≡ counts_of (values_of d) }
+    ensures decision { result.decision ≡ d }
+    ensures counts { result.counts ≡ counts_of (values_of d) }
 {
     LumaAnswer {
         decision: d,

@@ -3,6 +3,8 @@
 // What a public function ensures is the standard's definition, over the integers, or that of C-20's counts. What a
 // private one of the filters ensures is an expression of naturals, which the prover checks by itself; the proofs of the
 // public ones carry the one to the other.
+#![tactic(auto)]
+
 mod chroma;
 mod counts;
 mod decision;

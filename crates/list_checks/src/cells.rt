@@ -3,7 +3,6 @@ ghost use Rattle.std.specs.Prelude.{◌+◌, ◌*◌, ◌/◌, ◌≤◌, min, c
 ghost use Rattle.picture.specs.Causes.{broken, cell_rules, cells_cause};
 ghost use Rattle.picture.specs.Cell.{cell_byte};
 ghost use Rattle.picture.specs.Ledger.{any_of, place_of};
-ghost use Rattle.picture.specs.Lent.{given};
 ghost use Rattle.list_checks.specs.Cells.{bad_qp_byte, bad_record, bad_strength, bad_tail};
 
 use crate::slices::slice_count;
@@ -51,7 +50,7 @@ fn bad_tail(slice: u16, sixth: u8, seventh: u8, count: usize) -> bool
 fn bad_cell_at(cells: &[u8], n: usize, least: u8, count: usize) -> bool
     requires { (8 * n + 8 ≤ length cells.now) × (least ≤ 115) }
     ensures { result ≡ any_of
-        (bad_record least count (given cells) n ++ broken cell_rules (cell_byte (given cells) n)) }
+        (bad_record least count cells.now n ++ broken cell_rules (cell_byte cells.now n)) }
 {
     let at = 8 * n;
     let cell = cell_at(cells, n);
@@ -67,7 +66,7 @@ fn bad_cell_at(cells: &[u8], n: usize, least: u8, count: usize) -> bool
 pub fn first_bad_cell(cells: &[u8], slices: &[u8], depth: u32) -> usize
     requires { (8 ≤ depth) × (depth ≤ 16) }
     ensures { result ≡ place_of
-        (cells_cause cell_rules depth (given slices) (given cells) (length (given cells) / 8)) }
+        (cells_cause cell_rules depth slices.now cells.now (length cells.now / 8)) }
 {
     let least = (64 - 6 * (depth - 8)) as u8;
     let count = slice_count(slices);

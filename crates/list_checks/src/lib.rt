@@ -1,5 +1,7 @@
 // Causes 7 to 10 of the refusal ledger, document 01, each with a function that finds the first bad entry: what the
 // lists hold, slice records, tile starts, cell records and samples.
+#![tactic(auto)]
+
 mod cells;
 mod samples;
 mod slices;

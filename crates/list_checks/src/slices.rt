@@ -2,12 +2,11 @@
 ghost use Rattle.std.specs.Prelude.{◌+◌, ◌*◌, ◌≤◌, ◌≡◌, length};
 ghost use Rattle.picture.specs.Causes.{bad_slice, cause7};
 ghost use Rattle.picture.specs.Ledger.{any_of, place_of};
-ghost use Rattle.picture.specs.Lent.{given};
 ghost use Rattle.picture.specs.Slice.{slice_byte, slice_count};
 
 // How many records a list stands for.
 pub fn slice_count(slices: &[u8]) -> usize
-    ensures { result ≡ slice_count (given slices) }
+    ensures { result ≡ slice_count slices.now }
 {
     if slices.len() == 0 {
         return 1;
@@ -18,7 +17,7 @@ pub fn slice_count(slices: &[u8]) -> usize
 // Slice record n is out of range.
 fn bad_slice_at(slices: &[u8], n: usize) -> bool
     requires { 4 * n + 4 ≤ length slices.now }
-    ensures { result ≡ any_of (bad_slice (slice_byte (given slices) n)) }
+    ensures { result ≡ any_of (bad_slice (slice_byte slices.now n)) }
 {
     let at = 4 * n;
     (1 < slices[at]) | (12 < slices[at + 1]) | (12 < slices[at + 2]) | (1 < slices[at + 3])
@@ -26,7 +25,7 @@ fn bad_slice_at(slices: &[u8], n: usize) -> bool
 
 // 7. The first slice record out of range, or their number where none is.
 pub fn first_bad_slice(slices: &[u8]) -> usize
-    ensures { result ≡ place_of (cause7 (given slices)) }
+    ensures { result ≡ place_of (cause7 slices.now) }
 {
     let mut n = 0;
     while n < slices.len() / 4 {

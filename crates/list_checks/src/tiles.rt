@@ -3,14 +3,13 @@ ghost use Rattle.std.specs.Prelude.{◌+◌, ◌^◌, ◌≤◌, ◌<◌, ◌≡
 ghost use Rattle.picture.specs.Causes.{bad_order, cause8, starts_cause};
 ghost use Rattle.picture.specs.Given.{picture_of, planes_of};
 ghost use Rattle.picture.specs.Ledger.{any_of, place_of};
-ghost use Rattle.picture.specs.Lent.{given};
 
 use picture::Settings;
 
 // Start k is not 0 where it is the first, or not above the one before.
 fn bad_order(starts: &[u16], k: usize) -> bool
     requires { k < length starts.now }
-    ensures { result ≡ bad_order (given starts) k }
+    ensures { result ≡ bad_order starts.now k }
 {
     if k == 0 {
         return starts[k] != 0;
@@ -21,7 +20,7 @@ fn bad_order(starts: &[u16], k: usize) -> bool
 // Start k is out of order, or not below the number of CTBs.
 fn bad_start(starts: &[u16], k: usize, ctbs: u32) -> bool
     requires { k < length starts.now }
-    ensures { result ≡ any_of (bad_order (given starts) k ∷ leb ctbs (get_or (given starts) k 0) ∷ []) }
+    ensures { result ≡ any_of (bad_order starts.now k ∷ leb ctbs (get_or starts.now k 0) ∷ []) }
 {
     bad_order(starts, k) | (ctbs <= starts[k] as u32)
 }
@@ -29,7 +28,7 @@ fn bad_start(starts: &[u16], k: usize, ctbs: u32) -> bool
 // The first start out of rule, of CTBs of this size in this many samples; or the number of starts where none is.
 fn first_bad_start(starts: &[u16], size: u32, total: u32) -> usize
     requires { (0 < size) × (total + size < 2 ^ 32) }
-    ensures { result ≡ place_of (starts_cause (given starts) size total) }
+    ensures { result ≡ place_of (starts_cause starts.now size total) }
 {
     let ctbs = (total + size - 1) / size;
     let mut k = 0;
@@ -46,7 +45,7 @@ fn first_bad_start(starts: &[u16], size: u32, total: u32) -> usize
 pub fn first_bad_tile(settings: Settings, columns: &[u16], rows: &[u16]) -> usize
     requires { (settings.width ≤ 8192) × (settings.height ≤ 8192) × (settings.log2_ctb ≤ 6) }
     ensures { result ≡ place_of (cause8
-        (picture_of settings (planes_of [] [] []) [] [] (given columns) (given rows))) }
+        (picture_of settings (planes_of [] [] []) [] [] columns.now rows.now)) }
 {
     let size = 1 << settings.log2_ctb;
     let column = first_bad_start(columns, size, settings.width);

@@ -1,6 +1,8 @@
 // The luma filter on a segment's window, in place, in a lent list of samples. `base` is where p3 of line 0 stands. At a
 // vertical edge the samples across it are neighbours and its lines lie `along` apart; at a horizontal edge it is the
 // other way round.
+#![tactic(auto)]
+
 mod luma;
 mod rows;
 mod turned;

@@ -3,7 +3,6 @@
 ghost use Rattle.std.specs.Prelude.{◌≡◌, ◌+◌, ◌*◌, ◌<◌, length};
 ghost use Rattle.filter.specs.Answer.{luma_of};
 ghost use Rattle.filter.specs.Kernel.{kernel};
-ghost use Rattle.picture.specs.Lent.{given, left};
 ghost use Rattle.planes.specs.Window.{Filtered, Strides, window_at};
 ghost use Rattle.luma_windows.specs.Decided.{answer_at, decision_at};
 
@@ -17,7 +16,7 @@ use window_lines::take_line;
 // that there, so that they cost it nothing.
 fn decide(s: &[u16], base: usize, across: usize, along: usize, t: LumaFilter) -> LumaDecision
     requires { base + 3 * along + 7 * across < length s.now }
-    ensures { result ≡ decision_at t (window_at (given s) base across along) }
+    ensures { result ≡ decision_at t (window_at s.now base across along) }
 {
     let l0 = take_line(s, base, across);
     let l3 = take_line(s, base + 3 * along, across);
@@ -29,8 +28,8 @@ fn decide(s: &[u16], base: usize, across: usize, along: usize, t: LumaFilter) ->
 pub fn horizontal_luma(s: &mut [u16], base: usize, across: usize, t: LumaFilter) -> LumaAnswer
     requires across_in_bounds { base + 3 + 7 * across < length s.old }
     requires strides { Strides across 1 }
-    ensures filtered { Filtered 4 (kernel (luma_of t)) base across 1 (given s) (left s) }
-    ensures value { result ≡ answer_at t (window_at (given s) base across 1) }
+    ensures filtered { Filtered 4 (kernel (luma_of t)) base across 1 s.old s.new }
+    ensures value { result ≡ answer_at t (window_at s.old base across 1) }
 {
     let d = decide(s, base, across, 1, t);
     filter_rows(s, base, across, d, t);
@@ -41,8 +40,8 @@ pub fn horizontal_luma(s: &mut [u16], base: usize, across: usize, t: LumaFilter)
 pub fn vertical_luma(s: &mut [u16], base: usize, along: usize, t: LumaFilter) -> LumaAnswer
     requires along_in_bounds { base + 3 * along + 7 < length s.old }
     requires strides { Strides 1 along }
-    ensures filtered { Filtered 4 (kernel (luma_of t)) base 1 along (given s) (left s) }
-    ensures value { result ≡ answer_at t (window_at (given s) base 1 along) }
+    ensures filtered { Filtered 4 (kernel (luma_of t)) base 1 along s.old s.new }
+    ensures value { result ≡ answer_at t (window_at s.old base 1 along) }
 {
     let d = decide(s, base, 1, along, t);
     if let LumaDecision::Skip = d {

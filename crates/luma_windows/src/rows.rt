@@ -4,7 +4,6 @@ ghost use Rattle.std.specs.Prelude.{◌≡◌, ◌+◌, ◌*◌, ◌<◌, length
 ghost use Rattle.lines.specs.Answer.{values_of};
 ghost use Rattle.lines.specs.Luma.{strong_line, weak_line};
 ghost use Rattle.luma_windows.specs.Decided.{decided_by, each};
-ghost use Rattle.picture.specs.Lent.{given, left};
 ghost use Rattle.planes.specs.Window.{Filtered, Strides};
 
 use filter::LumaFilter;
@@ -43,7 +42,7 @@ fn weak_lines(t: LumaFilter, p: bool, q: bool, w: Lines) -> Lines
 pub(crate) fn filter_rows(s: &mut [u16], base: usize, across: usize, d: LumaDecision, t: LumaFilter)
     requires across_in_bounds { base + 3 + 7 * across < length s.old }
     requires strides { Strides across 1 }
-    ensures { Filtered 4 (decided_by (values_of d) t) base across 1 (given s) (left s) }
+    ensures { Filtered 4 (decided_by (values_of d) t) base across 1 s.old s.new }
 {
     match d {
         LumaDecision::Skip => {}

@@ -2,7 +2,6 @@
 // small array, filtered there and turned back.
 ghost use Rattle.std.specs.Prelude.{◌≡◌, ◌+◌, ◌*◌, ◌<◌, length};
 ghost use Rattle.lines.specs.Answer.{values_of};
-ghost use Rattle.picture.specs.Lent.{given, left};
 ghost use Rattle.planes.specs.Window.{Filtered, Strides, window_at};
 ghost use Rattle.luma_windows.specs.Decided.{Turned, decided_by, shown};
 
@@ -13,7 +12,7 @@ use window_lines::{put_line, put_rows, take_line, take_lines};
 
 fn turn(s: &[u16], base: usize, along: usize, t: &mut [u16])
     requires { (base + 3 * along + 7 < length s.now) × (length t.old ≡ 32) }
-    ensures { Turned (window_at (given s) base 1 along) (left t) }
+    ensures { Turned (window_at s.now base 1 along) t.new }
 {
     put_rows(t, 0, 4, take_lines(s, base, 1, along));
 }
@@ -21,7 +20,7 @@ fn turn(s: &[u16], base: usize, along: usize, t: &mut [u16])
 fn turn_back(s: &mut [u16], base: usize, along: usize, t: &[u16])
     requires along_in_bounds { (base + 3 * along + 7 < length s.old) × (length t.now ≡ 32) }
     requires strides { Strides 1 along }
-    ensures { Filtered 4 (shown (given t)) base 1 along (given s) (left s) }
+    ensures { Filtered 4 (shown t.now) base 1 along s.old s.new }
 {
     for j in 0..4 {
         put_line(s, base + j * along, 1, take_line(t, j, 4));
@@ -38,7 +37,7 @@ pub(crate) fn filter_turned(
 )
     requires along_in_bounds { base + 3 * along + 7 < length s.old }
     requires strides { Strides 1 along }
-    ensures { Filtered 4 (decided_by (values_of d) f) base 1 along (given s) (left s) }
+    ensures { Filtered 4 (decided_by (values_of d) f) base 1 along s.old s.new }
 {
     let mut t = [0u16; 32];
     turn(s, base, along, &mut t[..]);

@@ -1,7 +1,8 @@
 // How far the samples of one plane are from those of another, and where (document 02, C-23).
+#![tactic(auto)]
+
 ghost use Rattle.std.specs.Prelude.{◌≡◌, min};
 ghost use Rattle.ints.specs.Sample.{distance};
-ghost use Rattle.picture.specs.Lent.{given};
 ghost use Rattle.moves.specs.Farthest.{Farthest};
 
 use ints::abs_diff;
@@ -29,7 +30,7 @@ fn shorter(a: usize, b: usize) -> usize
 // The sample that is farthest from the other list's at its place; of lists of two lengths the places are those of the
 // shorter one.
 pub fn farthest_move(before: &[u16], after: &[u16]) -> Move
-    ensures { Farthest (given before) (given after) result }
+    ensures { Farthest before.now after.now result }
 {
     let n = shorter(before.len(), after.len());
     let mut distance = 0;

@@ -1,7 +1,6 @@
 // Cell records, 8 bytes each.
 ghost use Rattle.std.specs.Prelude.{◌≡◌, ◌+◌, ◌*◌, ◌^◌, ◌≤◌, ◌<◌, length};
 ghost use Rattle.picture.specs.Cell.{cell_at, cell_number};
-ghost use Rattle.picture.specs.Lent.{given};
 
 use crate::Cell;
 use crate::columns::CellColumn;
@@ -25,7 +24,7 @@ pub fn cell_bytes(columns: CellColumn, rows: usize) -> usize
 // Cell record n.
 pub fn cell_at(cells: &[u8], n: usize) -> Cell
     requires { 8 * n + 8 ≤ length cells.now }
-    ensures { result ≡ cell_at (given cells) n }
+    ensures { result ≡ cell_at cells.now n }
 {
     let at = 8 * n;
     let slice = wide(cells[at + 4]) + 256 * wide(cells[at + 5]);

@@ -1,5 +1,7 @@
 // A picture's records: columns and rows, cells, slices and tiles. The definitions that its specs hold are those of
 // document 01, 'What a sheet consists of', 'Refusal ledger' and 'The cut'.
+#![tactic(auto)]
+
 mod cells;
 mod columns;
 mod rows;

@@ -1,6 +1,5 @@
 // Slice records, 4 bytes each.
 ghost use Rattle.std.specs.Prelude.{◌≡◌, ◌+◌, ◌*◌, ◌≤◌, ◌<◌, length};
-ghost use Rattle.picture.specs.Lent.{given};
 ghost use Rattle.picture.specs.Slice.{slice_at, slice_count};
 
 use crate::Slice;
@@ -16,7 +15,7 @@ const DEFAULT: Slice = Slice {
 // Slice record n of a list whose length is a multiple of 4.
 pub fn slice_at(slices: &[u8], n: usize) -> Slice
     requires { n < slice_count slices.now }
-    ensures { result ≡ slice_at (given slices) n }
+    ensures { result ≡ slice_at slices.now n }
 {
     if slices.len() == 0 {
         return DEFAULT;

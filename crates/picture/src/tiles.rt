@@ -1,13 +1,12 @@
 // The tile that a CTB lies in, one direction at a time: col_of and row_of of the Rust.
 ghost use Rattle.std.specs.Prelude.{◌≡◌, eqb};
-ghost use Rattle.picture.specs.Lent.{given};
 ghost use Rattle.picture.specs.Tile.{tile_of};
 
 use crate::columns::CtbColumn;
 
 // How many starts are not past a CTB.
 fn starts_reached(starts: &[u16], ctb: usize) -> usize
-    ensures { result ≡ tile_of (given starts) ctb }
+    ensures { result ≡ tile_of starts.now ctb }
 {
     let mut n = 0;
     let mut i = 0;
@@ -22,7 +21,7 @@ fn starts_reached(starts: &[u16], ctb: usize) -> usize
 
 // Whether two CTBs of one direction lie in one tile. Most pairs are one CTB, which takes no lookup.
 fn same_tile(starts: &[u16], p: usize, q: usize) -> bool
-    ensures { result ≡ eqb (tile_of (given starts) p) (tile_of (given starts) q) }
+    ensures { result ≡ eqb (tile_of starts.now p) (tile_of starts.now q) }
 {
     if p == q {
         return true;
@@ -32,14 +31,14 @@ fn same_tile(starts: &[u16], p: usize, q: usize) -> bool
 
 // Whether two columns of CTBs lie in one tile column.
 pub fn same_tile_column(starts: &[u16], p: CtbColumn, q: CtbColumn) -> bool
-    ensures { result ≡ eqb (tile_of (given starts) p.0) (tile_of (given starts) q.0) }
+    ensures { result ≡ eqb (tile_of starts.now p.0) (tile_of starts.now q.0) }
 {
     same_tile(starts, p.0, q.0)
 }
 
 // Whether two rows of CTBs lie in one tile row.
 pub fn same_tile_row(starts: &[u16], p: usize, q: usize) -> bool
-    ensures { result ≡ eqb (tile_of (given starts) p) (tile_of (given starts) q) }
+    ensures { result ≡ eqb (tile_of starts.now p) (tile_of starts.now q) }
 {
     same_tile(starts, p, q)
 }

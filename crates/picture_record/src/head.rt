@@ -1,6 +1,5 @@
 // The head of a record: twenty words. Word 0 is the mark; then nine settings and ten lengths.
 ghost use Rattle.std.specs.Prelude.{◌≡◌, ◌<◌, min};
-ghost use Rattle.picture.specs.Lent.{given};
 ghost use Rattle.picture_record.specs.Head.{marked, settings_in, length_in, limit_of, within};
 
 use crate::numbers::{signed, word};
@@ -18,13 +17,13 @@ pub const SLICE_BYTES: usize = 4000;
 pub const STARTS: usize = 40;
 
 pub fn is_marked(head: &[u8; 80]) -> bool
-    ensures { result ≡ marked (given head) }
+    ensures { result ≡ marked head.now }
 {
     word(head, 0) == MARK
 }
 
 pub fn settings(head: &[u8; 80]) -> Settings
-    ensures { result ≡ settings_in (given head) }
+    ensures { result ≡ settings_in head.now }
 {
     Settings {
         width: word(head, 1),
@@ -58,7 +57,7 @@ fn limit_of(k: usize) -> usize
 // Length k of the ten, and never more than its limit.
 pub fn length_at(head: &[u8; 80], k: usize) -> usize
     requires { k < 10 }
-    ensures { result ≡ min (length_in (given head) k) (limit_of k) }
+    ensures { result ≡ min (length_in head.now k) (limit_of k) }
 {
     let most = limit_of(k);
     let n = word(head, 10 + k) as usize;
@@ -70,7 +69,7 @@ pub fn length_at(head: &[u8; 80], k: usize) -> usize
 
 // Whether all lengths are within their limits.
 pub fn all_fit(head: &[u8; 80]) -> bool
-    ensures { result ≡ within (given head) 10 }
+    ensures { result ≡ within head.now 10 }
 {
     let mut k = 0;
     while k < 10 {

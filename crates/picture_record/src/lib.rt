@@ -1,4 +1,6 @@
 // The stored record of a picture: its numbers, its head and its lists. oracle/README.md has the layout.
+#![tactic(auto)]
+
 mod fronts;
 mod head;
 mod numbers;

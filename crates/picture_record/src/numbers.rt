@@ -1,6 +1,5 @@
 // The numbers of a record, low byte first.
 ghost use Rattle.std.specs.Prelude.{◌≡◌, ◌+◌, ◌*◌, ◌≤◌, length};
-ghost use Rattle.picture.specs.Lent.{given, left};
 ghost use Rattle.picture_record.specs.Numbers.{word_at, half_at, halves, signed_of};
 
 // The number of two bytes.
@@ -13,7 +12,7 @@ fn joined(low: u8, high: u8) -> u16
 // The 16-bit number k of a list of bytes.
 fn half_at(bytes: &[u8], k: usize) -> u16
     requires { 2 * k + 2 ≤ length bytes.now }
-    ensures { result ≡ half_at (given bytes) k }
+    ensures { result ≡ half_at bytes.now k }
 {
     let at = 2 * k;
     let low = bytes[at];
@@ -24,7 +23,7 @@ fn half_at(bytes: &[u8], k: usize) -> u16
 // Word k of a list of bytes.
 pub fn word(bytes: &[u8], k: usize) -> u32
     requires { 4 * k + 4 ≤ length bytes.now }
-    ensures { result ≡ word_at (given bytes) k }
+    ensures { result ≡ word_at bytes.now k }
 {
     let low = half_at(bytes, 2 * k);
     let high = half_at(bytes, 2 * k + 1);
@@ -44,7 +43,7 @@ pub(crate) fn signed(w: u32) -> i32
 // The numbers of `bytes`, as many as `out` has.
 pub(crate) fn unpack(bytes: &[u8], out: &mut [u16])
     requires { 2 * length out.old ≤ length bytes.now }
-    ensures { left out ≡ halves (given bytes) (length (given out)) }
+    ensures { out.new ≡ halves bytes.now (length out.old) }
 {
     let mut i = 0;
     while i < out.len() {

@@ -1,4 +1,6 @@
 // Stored pictures: records from standard input, lines to standard output. oracle/README.md has the layout of both.
+#![tactic(auto)]
+
 mod pictures;
 mod turn;
 

@@ -2,8 +2,7 @@
 ghost use Rattle.std.specs.Prelude.{◌≡◌};
 ghost use Rattle.checksum.specs.Answer.{answer_of};
 ghost use Rattle.ledger.specs.Numbered.{numbered};
-ghost use Rattle.picture.specs.Given.{of_planes};
-ghost use Rattle.picture.specs.Lent.{given, planes_given};
+ghost use Rattle.picture.specs.Given.{of_planes, planes_of};
 ghost use Rattle.picture_run.specs.Outputs.{lent_outputs};
 ghost use Rattle.picture_run.specs.Sums.{finished_answer};
 
@@ -28,7 +27,7 @@ fn finished_checksums(
     outcr: &[u16],
 ) -> Checksums
     ensures { answer_of result ≡
-        finished_answer (numbered verdict) (of_planes settings (planes_given outy outcb outcr)) }
+        finished_answer (numbered verdict) (of_planes settings (planes_of outy.now outcb.now outcr.now)) }
 {
     let Verdict::Accepted = verdict else {
         return Checksums::Refused(verdict);
@@ -114,7 +113,7 @@ fn stage_line(
 
 // How long the output planes are.
 fn lent_outputs(head: &[u8; 80]) -> LentSamples
-    ensures { result ≡ lent_outputs (given head) }
+    ensures { result ≡ lent_outputs head.now }
 {
     LentSamples {
         y: length_at(head, 3),

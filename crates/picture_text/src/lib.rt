@@ -1,5 +1,7 @@
 // The lines that the programs on stored pictures print. oracle/README.md has their layout. What goes through io has no
 // contract: none of io's says what was written. Each function that writes answers whether all was written.
+#![tactic(auto)]
+
 mod farthest;
 mod floats;
 mod pictures;

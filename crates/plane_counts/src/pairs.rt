@@ -1,6 +1,5 @@
 // A record's numbers, and what is asked of them before its planes are read.
 ghost use Rattle.std.specs.Prelude.{◌≡◌, ◌+◌, leb};
-ghost use Rattle.picture.specs.Lent.{given};
 ghost use Rattle.plane_counts.specs.Pairs.{pair_in, small, inside};
 
 use picture_record::{SAMPLES, word};
@@ -15,7 +14,7 @@ pub(crate) struct Pair {
 }
 
 pub(crate) fn pair_in(head: &[u8; 24]) -> Pair
-    ensures { result ≡ pair_in (given head) }
+    ensures { result ≡ pair_in head.now }
 {
     Pair {
         part: Part {

@@ -1,10 +1,11 @@
 // A view of a plane: lent samples with their width and height, as RefPlane of the Rust's src/mc.rs. The borrow checker
 // covers no function over a struct that holds a reference: those here are few and thin, each proved by hand, and leave
 // the work to samples.rt. Whoever calls `plane_sample`, whose parameters are plain, needs no proof by hand.
+#![tactic(auto)]
+
 mod samples;
 
 ghost use Rattle.std.specs.Prelude.{◌≡◌};
-ghost use Rattle.picture.specs.Lent.{given};
 ghost use Rattle.plane_view.specs.View.{view_size, sample_in, plane_sample};
 
 pub use samples::{Sample, is_plane};
@@ -22,8 +23,8 @@ pub struct PlaneView<'a> {
 // outside. An enum cannot hold a reference, so the refusal is no answer of its own; `is_plane` tells it.
 pub fn plane_view<'a>(samples: &'a [u16], width: usize, height: usize) -> PlaneView<'a>
     ensures { (result.samples ≡ samples.entry)
-        × ((result.width ≡ (view_size (given samples) width height).width)
-        × (result.height ≡ (view_size (given samples) width height).height)) }
+        × ((result.width ≡ (view_size samples.now width height).width)
+        × (result.height ≡ (view_size samples.now width height).height)) }
 {
     let size = view_size(samples, width, height);
     PlaneView {
@@ -54,7 +55,7 @@ pub fn sample_at<'a>(view: PlaneView<'a>, x: usize, y: usize) -> Sample
 
 // The sample at column x of row y of a plane, by a view of it.
 pub fn plane_sample(samples: &[u16], width: usize, height: usize, x: usize, y: usize) -> Sample
-    ensures { result ≡ plane_sample (given samples) width height x y }
+    ensures { result ≡ plane_sample samples.now width height x y }
 {
     sample_at(plane_view(samples, width, height), x, y)
 }

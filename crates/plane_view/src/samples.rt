@@ -1,7 +1,6 @@
 // What a view of a plane does, on the slice and the numbers. Any numbers may be passed: whether a product fits is
 // asked by a division.
 ghost use Rattle.std.specs.Prelude.{◌≡◌};
-ghost use Rattle.picture.specs.Lent.{given};
 ghost use Rattle.plane_view.specs.View.{is_plane, view_size, sample_in};
 
 // What a read gives.
@@ -20,7 +19,7 @@ pub struct Size {
 
 // Whether there is a sample for each column of each row, and no more.
 pub fn is_plane(samples: &[u16], width: usize, height: usize) -> bool
-    ensures { result ≡ is_plane (given samples) width height }
+    ensures { result ≡ is_plane samples.now width height }
 {
     if width == 0 {
         return samples.len() == 0;
@@ -35,7 +34,7 @@ pub fn is_plane(samples: &[u16], width: usize, height: usize) -> bool
 
 // The size of a plane's view; 0 by 0 where the samples are no plane.
 pub fn view_size(samples: &[u16], width: usize, height: usize) -> Size
-    ensures { result ≡ view_size (given samples) width height }
+    ensures { result ≡ view_size samples.now width height }
 {
     if is_plane(samples, width, height) {
         Size { width, height }
@@ -49,7 +48,7 @@ pub fn view_size(samples: &[u16], width: usize, height: usize) -> Size
 
 // The sample at column x of row y, where the size and the slice have that place.
 pub fn sample_of(samples: &[u16], width: usize, height: usize, x: usize, y: usize) -> Sample
-    ensures { result ≡ sample_in (given samples) width height x y }
+    ensures { result ≡ sample_in samples.now width height x y }
 {
     if width <= x {
         return Sample::Outside;

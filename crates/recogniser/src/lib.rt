@@ -1,5 +1,7 @@
 // What a digit recogniser asks of finished planes (document 02, C-22): a pixel as 32-bit floats, and the way back from
 // a float to its sample. It knows the stage by its contracts alone.
+#![tactic(auto)]
+
 mod pixels;
 mod way_back;
 

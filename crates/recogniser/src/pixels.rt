@@ -1,9 +1,8 @@
 // A pixel of a picture's planes, behind their checks.
 ghost use Rattle.std.specs.Prelude.{◌+◌, ◌*◌, ◌≤◌, ◌<◌, ◌≡◌};
 ghost use Rattle.picture.specs.Accepted.{GivenPlanesOk};
-ghost use Rattle.picture.specs.Given.{bare, of_planes, settings_of};
+ghost use Rattle.picture.specs.Given.{bare, of_planes, settings_of, planes_of};
 ghost use Rattle.picture.specs.Ledger.{any_of};
-ghost use Rattle.picture.specs.Lent.{planes_given, planes_now};
 ghost use Rattle.picture.specs.Picture.{across, down, plane_width};
 ghost use Rattle.picture.specs.Scale.{Cb, chroma_across, from_luma};
 ghost use Rattle.recogniser.specs.Pixel.{Answered, accepted, outside, pixel_answer};
@@ -57,9 +56,9 @@ fn pixel_inside(
     column: u32,
     row: u32,
 ) -> Pixel
-    requires given_planes_ok { GivenPlanesOk (of_planes settings (planes_now y cb cr)) }
-    requires column_lt_width { (column < settings.width) × (row < settings.height) }
-    ensures { Answered result (accepted (of_planes settings (planes_given y cb cr)) column row) }
+    requires given_planes_ok { GivenPlanesOk (of_planes settings (planes_of y.now cb.now cr.now)) }
+    requires inside { (column < settings.width) × (row < settings.height) }
+    ensures { Answered result (accepted (of_planes settings (planes_of y.now cb.now cr.now)) column row) }
 {
     let luma = y[index_of(settings.width as usize, column as usize, row as usize)];
     if settings.chroma_format == 0 {
@@ -85,7 +84,7 @@ pub fn pixel_at(
     column: u32,
     row: u32,
 ) -> Pixel
-    ensures { Answered result (pixel_answer (of_planes settings (planes_given y cb cr)) column row) }
+    ensures { Answered result (pixel_answer (of_planes settings (planes_of y.now cb.now cr.now)) column row) }
 {
     let verdict = check_planes(settings, y, cb, cr);
     let Verdict::Accepted = verdict else {

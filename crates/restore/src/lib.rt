@@ -1,5 +1,7 @@
 // Restoration: after each pass a suppressed cell, one that is lossless, palette or PCM with the switch on, has its
 // original samples again.
+#![tactic(auto)]
+
 mod marks;
 mod plane;
 mod rows;

@@ -1,6 +1,5 @@
 // A plane, row by row.
 ghost use Rattle.std.specs.Prelude.{◌≡◌};
-ghost use Rattle.picture.specs.Lent.{given, left};
 ghost use Rattle.picture.specs.Plane.{at};
 ghost use Rattle.picture.specs.Scale.{from_luma};
 ghost use Rattle.planes.specs.Rows.{Holds};
@@ -33,8 +32,8 @@ fn restore_rows(
     f: Frame,
 )
     requires { Restorable k f plane.old original.now cells.now }
-    ensures { Holds f.columns f.rows (left plane)
-        (restored_for pcm (given cells) k f (at (given original) f.columns) (at (given plane) f.columns)) }
+    ensures { Holds f.columns f.rows plane.new
+        (restored_for pcm cells.now k f (at original.now f.columns) (at plane.old f.columns)) }
 {
     let across = cell_columns(k);
     let mut y = 0;
@@ -66,8 +65,8 @@ pub fn restore(
 )
     requires restorable { Restorable k f plane.old original.now cells.now }
     requires any_suppressed { AnySuppressed r.pcm cells.now r.any }
-    ensures { Holds f.columns f.rows (left plane)
-        (restored_for r.pcm (given cells) k f (at (given original) f.columns) (at (given plane) f.columns)) }
+    ensures { Holds f.columns f.rows plane.new
+        (restored_for r.pcm cells.now k f (at original.now f.columns) (at plane.old f.columns)) }
 {
     if r.any {
         restore_rows(plane, original, cells, r.pcm, k, f);

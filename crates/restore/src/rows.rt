@@ -1,6 +1,5 @@
 // Cell rows: the samples of one cell in one row of a plane.
 ghost use Rattle.std.specs.Prelude.{◌≡◌, cond, ◌+◌, ◌≤◌, length, take, drop};
-ghost use Rattle.picture.specs.Lent.{given, left};
 ghost use Rattle.restore.specs.CellRows.{RowRestored, LineRestored, LineLent};
 
 use crate::marks::sample_suppressed;
@@ -15,7 +14,7 @@ pub fn cell_row<'a>(
     suppressed: bool,
 ) -> &'a [u16]
     requires { (at + count ≤ length original.now) × (at + count ≤ length filtered.now) }
-    ensures { result.now ≡ take count (drop at (cond suppressed (given original) (given filtered))) }
+    ensures { result.now ≡ take count (drop at (cond suppressed original.now filtered.now)) }
 {
     let end = at + count;
     if suppressed {
@@ -28,8 +27,8 @@ pub fn cell_row<'a>(
 // One cell row in place. The filtered row is there already.
 fn restore_row(line: &mut [u16], original: &[u16], at: usize, count: usize, suppressed: bool)
     requires count_in_bounds { (at + count ≤ length original.now) × (at + count ≤ length line.old) }
-    requires le_count { (2 ≤ count) × (count ≤ 4) }
-    ensures { RowRestored at count suppressed (given original) (given line) (left line) }
+    requires count_bound { (2 ≤ count) × (count ≤ 4) }
+    ensures { RowRestored at count suppressed original.now line.old line.new }
 {
     let row = cell_row(original, &line[..], at, count, suppressed);
     if suppressed {
@@ -57,7 +56,7 @@ pub(crate) fn restore_line(
     across: usize,
 )
     requires { LineLent width.0 row across line.old original.now cells.now }
-    ensures { LineRestored pcm (given cells) width.0 row across (given original) (given line) (left line) }
+    ensures { LineRestored pcm cells.now width.0 row across original.now line.old line.new }
 {
     let mut gx = 0;
     while gx < width.0 {

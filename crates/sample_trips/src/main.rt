@@ -1,5 +1,7 @@
 // Every sample of every depth there and back (document 02, C-22): a line for each depth, of luma and of chroma. It says
 // how many samples come back as themselves, and all floats on the way as one number.
+#![tactic(auto)]
+
 ghost use Rattle.std.specs.Prelude.{◌^◌, ◌<◌, ◌≡◌};
 ghost use Rattle.float_samples.specs.Sample.{DepthOk, Gives};
 ghost use Rattle.sample_trips.specs.Trip.{patterns};

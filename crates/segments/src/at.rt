@@ -2,7 +2,6 @@
 // is an edge, and how it is filtered. Most segments have none, and then nothing else of them is read.
 ghost use Rattle.std.specs.Prelude.{true, ◌≡◌, ◌+◌, ◌^◌, ◌≤◌, ◌<◌};
 ghost use Rattle.filter.specs.Segment.{edge_flag, horizontal, vertical};
-ghost use Rattle.picture.specs.Lent.{given};
 ghost use Rattle.segments.specs.Between.{option_of};
 ghost use Rattle.picture.specs.Scale.{to_luma};
 ghost use Rattle.segments.specs.Listed.{Listed};
@@ -20,7 +19,7 @@ use filter::Component;
 pub fn vertical_edge(cells: &[u8], k: Component, f: Frame, e: usize, l: usize) -> bool
     requires e_bound { (e < 2 ^ 32) × (l + 1 < 2 ^ 32) }
     requires listed { Listed cells.now f.cell_columns.0 (to_luma (across_for k) e) (to_luma (down_for k) (l + 1)) }
-    ensures { result ≡ edge_flag vertical (cell_for vertical k f (given cells) e l) }
+    ensures { result ≡ edge_flag vertical (cell_for vertical k f cells.now e l) }
 {
     let x = luma_column_at(k, e);
     let y = luma_row_at(k, l + 1);
@@ -39,10 +38,10 @@ pub fn vertical_filter(
     l: usize,
 ) -> Segment
     requires ready { Ready k f cells.now slices.now tcs.now }
-    requires le_e { (8 ≤ e) × (e < f.columns) × (l + 1 < f.rows) }
-    requires l_value { edge_flag vertical (cell_for vertical k f cells.now e l) ≡ true }
+    requires on_edge { (8 ≤ e) × (e < f.columns) × (l + 1 < f.rows) }
+    requires flagged { edge_flag vertical (cell_for vertical k f cells.now e l) ≡ true }
     ensures { option_of k.largest result
-        ≡ segment_for vertical k f (given cells) (given slices) (given starts) e l }
+        ≡ segment_for vertical k f cells.now slices.now starts.now e l }
 {
     let x = luma_column_at(k, e);
     let y = luma_row_at(k, l + 1);
@@ -55,7 +54,7 @@ pub fn vertical_filter(
 pub fn horizontal_edge(cells: &[u8], k: Component, f: Frame, e: usize, l: usize) -> bool
     requires e_bound { (e < 2 ^ 32) × (l + 1 < 2 ^ 32) }
     requires listed { Listed cells.now f.cell_columns.0 (to_luma (across_for k) (l + 1)) (to_luma (down_for k) e) }
-    ensures { result ≡ edge_flag horizontal (cell_for horizontal k f (given cells) e l) }
+    ensures { result ≡ edge_flag horizontal (cell_for horizontal k f cells.now e l) }
 {
     let x = luma_column_at(k, l + 1);
     let y = luma_row_at(k, e);
@@ -73,10 +72,10 @@ pub fn horizontal_filter(
     l: usize,
 ) -> Segment
     requires ready { Ready k f cells.now slices.now tcs.now }
-    requires le_e { (8 ≤ e) × (e < f.rows) × (l + 1 < f.columns) }
-    requires l_value { edge_flag horizontal (cell_for horizontal k f cells.now e l) ≡ true }
+    requires on_edge { (8 ≤ e) × (e < f.rows) × (l + 1 < f.columns) }
+    requires flagged { edge_flag horizontal (cell_for horizontal k f cells.now e l) ≡ true }
     ensures { option_of k.largest result
-        ≡ segment_for horizontal k f (given cells) (given slices) (given starts) e l }
+        ≡ segment_for horizontal k f cells.now slices.now starts.now e l }
 {
     let x = luma_column_at(k, l + 1);
     let y = luma_row_at(k, e);

@@ -1,7 +1,6 @@
 // The gate and the filter of a segment whose edge flag is set.
 ghost use Rattle.std.specs.Prelude.{◌≡◌, cond, ◌≤◌, ◌<◌};
 ghost use Rattle.filter.specs.Answer.{SegmentInRange, Sound};
-ghost use Rattle.picture.specs.Lent.{given};
 ghost use Rattle.picture.specs.Slice.{slice_at, slice_count};
 ghost use Rattle.segments.specs.Between.{between_for, filter_for, option_of, positive};
 ghost use Rattle.thresholds.specs.LumaTable.{TcTable};
@@ -21,7 +20,7 @@ fn least_bs(luma: bool) -> u8
 fn open_filter(tcs: &[u8; 1352], k: Component, p: Cell, q: Cell, s: Slice, bs: u8) -> Segment
     requires sound { Sound k }
     requires tc_table { TcTable tcs.now }
-    requires le_bs { (1 ≤ bs) × SegmentInRange p q s bs }
+    requires in_range { (1 ≤ bs) × SegmentInRange p q s bs }
     ensures { option_of k.largest result ≡ positive (filter_for k p q s bs) }
 {
     if k.luma {
@@ -53,7 +52,7 @@ pub(crate) fn segment_filter(
     requires tc_table { TcTable tcs.now }
     requires slice_bound { v.q.slice < slice_count slices.now }
     requires segment_in_range { SegmentInRange v.p v.q (slice_at slices.now v.q.slice) bs }
-    ensures { option_of k.largest result ≡ between_for k (given slices) v bs }
+    ensures { option_of k.largest result ≡ between_for k slices.now v bs }
 {
     if bs < least_bs(k.luma) {
         return Segment::Closed;

@@ -1,4 +1,6 @@
 // What is filtered at one segment: the cells on its two sides, and from them its filter.
+#![tactic(auto)]
+
 mod at;
 mod between;
 mod neighbours;

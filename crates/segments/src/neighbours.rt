@@ -1,7 +1,6 @@
 // The two sides of a segment, by the luma position of its Q sample.
 ghost use Rattle.std.specs.Prelude.{◌≡◌, ◌≤◌, ◌<◌};
 ghost use Rattle.filter.specs.Segment.{horizontal, vertical};
-ghost use Rattle.picture.specs.Lent.{given};
 ghost use Rattle.segments.specs.Listed.{Listed};
 ghost use Rattle.segments.specs.Sides.{cell_in, position_of, sides_at};
 
@@ -14,7 +13,7 @@ use picture::{
 // The cell of a luma sample.
 fn cell_of(cells: &[u8], width: CellColumn, x: LumaColumn, y: usize) -> Cell
     requires { Listed cells.now width.0 x.0 y }
-    ensures { result ≡ cell_in (given cells) width.0 (position_of x.0 y) }
+    ensures { result ≡ cell_in cells.now width.0 (position_of x.0 y) }
 {
     cell_at(cells, cell_number(width, x.cell(), row_of_cells(y)))
 }
@@ -22,7 +21,7 @@ fn cell_of(cells: &[u8], width: CellColumn, x: LumaColumn, y: usize) -> Cell
 // The flags of Q alone: most segments have no edge, and then nothing else of them is read.
 pub(crate) fn flags_at(cells: &[u8], width: CellColumn, x: LumaColumn, y: usize) -> u8
     requires { Listed cells.now width.0 x.0 y }
-    ensures { result ≡ (cell_in (given cells) width.0 (position_of x.0 y)).flags }
+    ensures { result ≡ (cell_in cells.now width.0 (position_of x.0 y)).flags }
 {
     let q = cell_of(cells, width, x, y);
     q.flags
@@ -37,9 +36,9 @@ pub(crate) fn vertical_sides(
     x: LumaColumn,
     y: usize,
 ) -> Sides
-    requires le_x { (1 ≤ x.0) × (log2 < 64) }
+    requires x_bound { (1 ≤ x.0) × (log2 < 64) }
     requires listed { Listed cells.now width.0 x.0 y }
-    ensures { result ≡ sides_at vertical (given cells) (given starts) log2 width.0 (position_of x.0 y) }
+    ensures { result ≡ sides_at vertical cells.now starts.now log2 width.0 (position_of x.0 y) }
 {
     let left = LumaColumn(x.0 - 1);
     let p = cell_of(cells, width, left, y);
@@ -57,9 +56,9 @@ pub(crate) fn horizontal_sides(
     x: LumaColumn,
     y: usize,
 ) -> Sides
-    requires le_y { (1 ≤ y) × (log2 < 64) }
+    requires y_bound { (1 ≤ y) × (log2 < 64) }
     requires listed { Listed cells.now width.0 x.0 y }
-    ensures { result ≡ sides_at horizontal (given cells) (given starts) log2 width.0 (position_of x.0 y) }
+    ensures { result ≡ sides_at horizontal cells.now starts.now log2 width.0 (position_of x.0 y) }
 {
     let above = y - 1;
     let p = cell_of(cells, width, x, above);

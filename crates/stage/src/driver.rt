@@ -1,10 +1,11 @@
 // The driver: every check, then each component's plane.
+ghost use Rattle.picture.specs.Given.{planes_of};
 ghost use Rattle.std.specs.Prelude.{◌≡◌};
 ghost use Rattle.filter.specs.Finished.{finished, outputs};
 ghost use Rattle.ledger.specs.Numbered.{numbered};
 ghost use Rattle.picture.specs.Accepted.{Accepted};
 ghost use Rattle.picture.specs.Causes.{verdict};
-ghost use Rattle.picture.specs.Lent.{picture_given, picture_now, planes_given, planes_left, planes_now};
+ghost use Rattle.picture.specs.Lent.{picture_given};
 
 use crate::components::{
     biased_offset, chroma_component, chroma_frame, luma_component, luma_frame,
@@ -30,9 +31,9 @@ fn deblock(
     outcb: &mut [u16],
     outcr: &mut [u16],
 )
-    requires { Accepted (picture_now settings y cb cr cells slices columns rows) (planes_now outy outcb outcr) }
-    ensures { planes_left outy outcb outcr ≡
-        finished (picture_given settings y cb cr cells slices columns rows) }
+    requires { Accepted (picture_given settings y.now cb.now cr.now cells.now slices.now columns.now rows.now) (planes_of outy.old outcb.old outcr.old) }
+    ensures { planes_of outy.new outcb.new outcr.new ≡
+        finished (picture_given settings y.now cb.now cr.now cells.now slices.now columns.now rows.now) }
 {
     // Laid out once, and lent to every look that the luma plane takes.
     let tcs = luma_tc_table();
@@ -65,10 +66,10 @@ pub fn apply_deblocking(
     outcb: &mut [u16],
     outcr: &mut [u16],
 ) -> Verdict
-    ensures result_value { numbered result ≡
-        verdict (picture_given settings y cb cr cells slices columns rows) (planes_given outy outcb outcr) }
-    ensures outcr_value { planes_left outy outcb outcr ≡
-        outputs (picture_given settings y cb cr cells slices columns rows) (planes_given outy outcb outcr) }
+    ensures verdict { numbered result ≡
+        verdict (picture_given settings y.now cb.now cr.now cells.now slices.now columns.now rows.now) (planes_of outy.old outcb.old outcr.old) }
+    ensures planes { planes_of outy.new outcb.new outcr.new ≡
+        outputs (picture_given settings y.now cb.now cr.now cells.now slices.now columns.now rows.now) (planes_of outy.old outcb.old outcr.old) }
 {
     let lent = OutputLengths::Planes {
         y: outy.len(),

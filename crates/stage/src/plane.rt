@@ -1,6 +1,5 @@
 // One component's plane, from the original to the finished samples.
 ghost use Rattle.std.specs.Prelude.{◌≡◌, ◌*◌, length};
-ghost use Rattle.picture.specs.Lent.{given, left};
 ghost use Rattle.picture.specs.Plane.{at, table};
 ghost use Rattle.planes.specs.Rows.{Holds};
 ghost use Rattle.segments.specs.Ready.{Ready};
@@ -16,7 +15,7 @@ use vertical_pass::vertical_pass;
 
 fn copy_samples(from: &[u16], to: &mut [u16])
     requires { length to.old ≡ length from.now }
-    ensures { left to ≡ given from }
+    ensures { to.new ≡ from.now }
 {
     let mut i = 0;
     while i < from.len() {
@@ -38,8 +37,8 @@ fn pass(
 )
     requires ready { Ready k f cells.now slices.now tcs.now }
     requires out_len { length out.old ≡ f.rows * f.columns }
-    ensures { Holds f.columns f.rows (left out)
-        (pass_for (direction_of d) k f (given cells) (given slices) (given starts) (at (given out) f.columns)) }
+    ensures { Holds f.columns f.rows out.new
+        (pass_for (direction_of d) k f cells.now slices.now starts.now (at out.old f.columns)) }
 {
     match d {
         Direction::Vertical => vertical_pass(out, cells, slices, starts, tcs, k, f),
@@ -61,9 +60,9 @@ fn step(
     r: Restoration,
 )
     requires { PlaneReady k f r out.old original.now cells.now slices.now tcs.now }
-    ensures { Holds f.columns f.rows (left out)
-        (step_for (direction_of d) k f r.pcm (given original) (given cells) (given slices) (given starts)
-        (at (given out) f.columns)) }
+    ensures { Holds f.columns f.rows out.new
+        (step_for (direction_of d) k f r.pcm original.now cells.now slices.now starts.now
+        (at out.old f.columns)) }
 {
     pass(out, cells, slices, starts, tcs, d, k, f);
     restore(out, original, cells, r, k, f);
@@ -83,8 +82,8 @@ pub(crate) fn finish_plane(
     r: Restoration,
 )
     requires { PlaneReady k f r out.old original.now cells.now slices.now tcs.now }
-    ensures { left out ≡ table f.columns f.rows
-        (finished_for k f r.pcm (given original) (given cells) (given slices) (given columns) (given rows)) }
+    ensures { out.new ≡ table f.columns f.rows
+        (finished_for k f r.pcm original.now cells.now slices.now columns.now rows.now) }
 {
     copy_samples(original, out);
     step(

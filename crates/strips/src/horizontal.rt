@@ -2,7 +2,6 @@
 ghost use Rattle.std.specs.Prelude.{◌≡◌, ◌+◌, ◌-◌, ◌*◌, ◌%◌, ◌≤◌, ◌<◌, length};
 ghost use Rattle.filter.specs.Segment.{horizontal};
 ghost use Rattle.strips.specs.Passed.{pass_for};
-ghost use Rattle.picture.specs.Lent.{given, left};
 ghost use Rattle.planes.specs.Rows.{Rows, seen};
 ghost use Rattle.segments.specs.Ready.{Ready};
 
@@ -23,9 +22,9 @@ pub fn horizontal_strip(
 )
     requires ready { Ready k f cells.now slices.now tcs.now }
     requires s_len { (length s.old ≡ 8 * f.columns) × (edge % 8 ≡ 0) × (8 ≤ edge) × (edge < f.rows) }
-    ensures { Rows f.columns (edge - 4) (edge + 4) (left s)
-        (pass_for horizontal k f (given cells) (given slices) (given starts)
-        (seen f.columns (edge - 4) (given s))) }
+    ensures { Rows f.columns (edge - 4) (edge + 4) s.new
+        (pass_for horizontal k f cells.now slices.now starts.now
+        (seen f.columns (edge - 4) s.old)) }
 {
     let mut x = 0;
     while x < f.columns {

@@ -1,5 +1,7 @@
 // The segments of a strip, in place: what is filtered at each, and the filter on its window. One set of functions
 // serves luma and chroma.
+#![tactic(auto)]
+
 mod horizontal;
 mod segment;
 mod vertical;

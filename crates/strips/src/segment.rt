@@ -3,7 +3,6 @@ ghost use Rattle.std.specs.Prelude.{◌≡◌, ◌+◌, ◌-◌, ◌*◌, ◌%�
 ghost use Rattle.filter.specs.Kernel.{kernel};
 ghost use Rattle.filter.specs.Segment.{horizontal, vertical};
 ghost use Rattle.strips.specs.Passed.{treatment};
-ghost use Rattle.picture.specs.Lent.{given, left};
 ghost use Rattle.planes.specs.Window.{Filtered, Strides, taken, window_at};
 ghost use Rattle.segments.specs.Between.{option_of};
 ghost use Rattle.segments.specs.Ready.{Ready};
@@ -32,10 +31,10 @@ pub(crate) fn vertical_segment(
     requires ready { Ready k f cells.now slices.now tcs.now }
     requires s_len { (length s.old ≡ 4 * f.columns) × (l + 4 ≤ f.rows) × (8 ≤ e) × (e + 4 ≤ f.columns) }
     ensures filtered { Filtered 4
-        (taken kernel (segment_for vertical k f (given cells) (given slices) (given starts) e l))
-        (e - 4) 1 f.columns (given s) (left s) }
-    ensures value { result ≡ treatment (segment_for vertical k f (given cells) (given slices) (given starts) e l)
-        (window_at (given s) (e - 4) 1 f.columns) }
+        (taken kernel (segment_for vertical k f cells.now slices.now starts.now e l))
+        (e - 4) 1 f.columns s.old s.new }
+    ensures value { result ≡ treatment (segment_for vertical k f cells.now slices.now starts.now e l)
+        (window_at s.old (e - 4) 1 f.columns) }
 {
     if !vertical_edge(cells, k, f, e, l) {
         return Treatment::Closed;
@@ -77,10 +76,10 @@ pub(crate) fn horizontal_segment(
     requires ready { Ready k f cells.now slices.now tcs.now }
     requires s_len { (length s.old ≡ 8 * f.columns) × (l + 4 ≤ f.columns) × (8 ≤ e) × (e < f.rows) }
     ensures filtered { Filtered 4
-        (taken kernel (segment_for horizontal k f (given cells) (given slices) (given starts) e l))
-        l f.columns 1 (given s) (left s) }
-    ensures value { result ≡ treatment (segment_for horizontal k f (given cells) (given slices) (given starts) e l)
-        (window_at (given s) l f.columns 1) }
+        (taken kernel (segment_for horizontal k f cells.now slices.now starts.now e l))
+        l f.columns 1 s.old s.new }
+    ensures value { result ≡ treatment (segment_for horizontal k f cells.now slices.now starts.now e l)
+        (window_at s.old l f.columns 1) }
 {
     if !horizontal_edge(cells, k, f, e, l) {
         return Treatment::Closed;

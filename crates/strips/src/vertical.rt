@@ -2,7 +2,6 @@
 ghost use Rattle.std.specs.Prelude.{◌≡◌, ◌+◌, ◌-◌, ◌*◌, ◌%◌, ◌≤◌, length};
 ghost use Rattle.filter.specs.Segment.{vertical};
 ghost use Rattle.strips.specs.Passed.{pass_for};
-ghost use Rattle.picture.specs.Lent.{given, left};
 ghost use Rattle.planes.specs.Rows.{Rows, seen};
 ghost use Rattle.segments.specs.Ready.{Ready};
 
@@ -23,8 +22,8 @@ pub fn vertical_strip(
 )
     requires ready { Ready k f cells.now slices.now tcs.now }
     requires s_len { (length s.old ≡ 4 * f.columns) × (row % 4 ≡ 0) × (row + 4 ≤ f.rows) }
-    ensures { Rows f.columns row (row + 4) (left s)
-        (pass_for vertical k f (given cells) (given slices) (given starts) (seen f.columns row (given s))) }
+    ensures { Rows f.columns row (row + 4) s.new
+        (pass_for vertical k f cells.now slices.now starts.now (seen f.columns row s.old)) }
 {
     let mut e = 8;
     while e < f.columns {

@@ -1,7 +1,5 @@
 -- Text in a lent buffer: the decimal digits of a number, and what it is to append bytes.
 use Rattle.std.specs.Prelude.{◌≡◌, true, false, List, [], ◌∷◌, ◌++◌, ℕ, zero, suc, ◌+◌, ◌/◌, ◌%◌, ltb, length, take, drop}
-use Rattle.std.specs.Borrow.{Bor}
-use denote.Triple.Both.{Both}
 
 -- the digits of n, found in fewer divisions by ten than `turns`
 unfoldable pub decimal_in : ℕ → ℕ → List ℕ
@@ -22,6 +20,6 @@ pub record Appended (at : ℕ) (bytes : List ℕ) (before after : List ℕ) (nex
   -- what stands past the new text is untouched
   pub rest : drop next after ≡ drop next before
 
--- the same of a buffer that is lent to be written, at a function's entry and at its exit
-abbrev pub Puts : Both (Bor (List ℕ)) (Bor (List ℕ)) → ℕ → List ℕ → ℕ → Type 0
-Puts out at bytes next = Appended at bytes out.entry.now out.exit.now next
+-- the same of a buffer that is lent to be written, as a function is given it and as the function leaves it
+abbrev pub Puts : List ℕ → List ℕ → ℕ → List ℕ → ℕ → Type 0
+Puts before after at bytes next = Appended at bytes before after next

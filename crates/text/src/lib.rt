@@ -1,11 +1,13 @@
 // Text in a buffer that the caller lends: each function puts bytes at `at` and answers the place past them, where the
 // next function goes on.
+#![tactic(auto)]
+
 ghost use Rattle.std.specs.Prelude.{◌+◌, ◌≤◌, ◌<◌, [], ◌∷◌, ◌++◌, length};
 ghost use Rattle.text.specs.Text.{Puts, decimal};
 
 pub fn put_byte(out: &mut [u8], at: usize, b: u8) -> usize
     requires { at < length out.old }
-    ensures { Puts out at (b ∷ []) result }
+    ensures { Puts out.old out.new at (b ∷ []) result }
 {
     out[at] = b;
     at + 1
@@ -13,7 +15,7 @@ pub fn put_byte(out: &mut [u8], at: usize, b: u8) -> usize
 
 pub fn put_bytes(out: &mut [u8], at: usize, s: &[u8]) -> usize
     requires { at + length s.now ≤ length out.old }
-    ensures { Puts out at s.now result }
+    ensures { Puts out.old out.new at s.now result }
 {
     let mut i = 0;
     while i < s.len() {
@@ -26,7 +28,7 @@ pub fn put_bytes(out: &mut [u8], at: usize, s: &[u8]) -> usize
 // A u16 has five digits at most.
 pub fn put_number(out: &mut [u8], at: usize, n: u16) -> usize
     requires { at + 5 ≤ length out.old }
-    ensures puts { Puts out at (decimal n) result }
+    ensures puts { Puts out.old out.new at (decimal n) result }
     ensures upper_bound { result ≤ at + 5 }
 {
     put_digits(out, at, n)
@@ -35,7 +37,7 @@ pub fn put_number(out: &mut [u8], at: usize, n: u16) -> usize
 // A number and the byte after it.
 pub fn put_number_then(out: &mut [u8], at: usize, n: u16, after: u8) -> usize
     requires { at + 6 ≤ length out.old }
-    ensures puts { Puts out at (decimal n ++ (after ∷ [])) result }
+    ensures puts { Puts out.old out.new at (decimal n ++ (after ∷ [])) result }
     ensures upper_bound { result ≤ at + 6 }
 {
     let next = put_number(out, at, n);
@@ -45,7 +47,7 @@ pub fn put_number_then(out: &mut [u8], at: usize, n: u16, after: u8) -> usize
 // Asks room for n's own digits and no more, so that the call for the digits before the last can be met.
 fn put_digits(out: &mut [u8], at: usize, n: u16) -> usize
     requires { at + length (decimal n) ≤ length out.old }
-    ensures { Puts out at (decimal n) result }
+    ensures { Puts out.old out.new at (decimal n) result }
 {
     if n < 10 {
         put_byte(out, at, 48 + n as u8)

@@ -8,7 +8,7 @@ use crate::tables::{qpc_row, scale, tc_row};
 
 // Table 8-10.
 fn table_qpc(index: u32) -> u32
-    ensures result_value { result ⊖ 76 ≡ table_qpc (index ⊖ 76) }
+    ensures value { result ⊖ 76 ≡ table_qpc (index ⊖ 76) }
     ensures upper_bound { result ≤ index }
 {
     if index < 106 {
@@ -22,7 +22,7 @@ fn table_qpc(index: u32) -> u32
 
 // The chroma QP of an index: format 1 by the table, the others at most 51.
 pub fn qpc(format: u32, index: u32) -> u32
-    ensures result_value { result ⊖ 76 ≡ chroma_qp format (index ⊖ 76) }
+    ensures value { result ⊖ 76 ≡ chroma_qp format (index ⊖ 76) }
     ensures upper_bound { result ≤ index }
 {
     if format == 1 {

@@ -1,6 +1,8 @@
 // The thresholds of a segment (ITU-T H.265, 8.7.2.5.3 and 8.7.2.5.5). All arithmetic is unsigned: a QP arrives as its
 // byte in a cell record, 64 more; a slice's offset as its byte, 6 more; the Cb or Cr offset 12 more. So an index
 // below a table's first row is a truncated subtraction or, of the luma tc, a test, and no number here is ever negative.
+#![tactic(auto)]
+
 mod chroma;
 mod luma;
 mod luma_table;

@@ -26,7 +26,7 @@ pub fn luma_beta(depth: u32, average: u8, offset: u8) -> u16
 // negative average gives 0 without a look.
 pub fn luma_tc(tcs: &[u8; 1352], depth: u32, average: u8, bs: u8, offset: u8) -> u16
     requires tc_table { TcTable tcs.now }
-    requires le_depth { (8 ≤ depth) × (depth ≤ 16) }
+    requires depth_bound { (8 ≤ depth) × (depth ≤ 16) }
     requires average_bound { (average ≤ 64 + 51) × (1 ≤ bs) × (bs ≤ 2) × (offset ≤ 12) }
     ensures { result ≡ luma_tc depth (average ⊖ 64) (pos bs) (offset ⊖ 6) }
 {

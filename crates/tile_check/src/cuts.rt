@@ -1,10 +1,10 @@
 // The cut: made, filtered as a picture alone, and compared.
+ghost use Rattle.picture.specs.Given.{planes_of};
 ghost use Rattle.std.specs.Prelude.{◌≡◌, ◌≤◌};
 ghost use Rattle.filter.specs.Finished.{outputs};
-ghost use Rattle.picture.specs.Lent.{given, planes_given, planes_left, planes_now};
 ghost use Rattle.tile_parts.specs.Parts.{part_of};
 ghost use Rattle.tile_check.specs.Alone.{CompareReady, alone, differing_alone, filtered_alone, one_tile};
-ghost use Rattle.tile_check.specs.Lent.{scratch_left, scratch_now};
+ghost use Rattle.tile_check.specs.Lent.{scratch_of};
 
 use picture::Settings;
 use stage::apply_deblocking;
@@ -34,8 +34,8 @@ fn filter_cut(
     outcb: &mut [u16],
     outcr: &mut [u16],
 )
-    ensures { planes_left outy outcb outcr ≡
-        outputs (one_tile settings (planes_given y cb cr) (given cells) (given slices)) (planes_given outy outcb outcr) }
+    ensures { planes_of outy.new outcb.new outcr.new ≡
+        outputs (one_tile settings (planes_of y.now cb.now cr.now) cells.now slices.now) (planes_of outy.old outcb.old outcr.old) }
 {
     let start = [0u16; 1];
     apply_deblocking(
@@ -63,12 +63,12 @@ pub(crate) fn compare_cut(
     owncb: &mut [u16],
     owncr: &mut [u16],
 ) -> usize
-    requires { CompareReady settings (part_of luma) (planes_now y cb cr) cells.now (planes_now outy outcb outcr)
-        (scratch_now cuty cutcb cutcr cutcells owny owncb owncr) }
-    ensures value { result ≡ differing_alone settings (part_of luma) (planes_given y cb cr) (given cells) (given slices)
-        (planes_given owny owncb owncr) (planes_given outy outcb outcr) }
-    ensures owncr_value { scratch_left cuty cutcb cutcr cutcells owny owncb owncr ≡ filtered_alone settings (part_of luma)
-        (planes_given y cb cr) (given cells) (given slices) (planes_given owny owncb owncr) }
+    requires { CompareReady settings (part_of luma) (planes_of y.now cb.now cr.now) cells.now (planes_of outy.now outcb.now outcr.now)
+        (scratch_of cuty.old cutcb.old cutcr.old cutcells.old owny.old owncb.old owncr.old) }
+    ensures count { result ≡ differing_alone settings (part_of luma) (planes_of y.now cb.now cr.now) cells.now slices.now
+        (planes_of owny.old owncb.old owncr.old) (planes_of outy.now outcb.now outcr.now) }
+    ensures scratch { scratch_of cuty.new cutcb.new cutcr.new cutcells.new owny.new owncb.new owncr.new ≡ filtered_alone settings (part_of luma)
+        (planes_of y.now cb.now cr.now) cells.now slices.now (planes_of owny.old owncb.old owncr.old) }
 {
     make_cut(
         settings,

@@ -2,12 +2,12 @@
 ghost use Rattle.std.specs.Prelude.{◌≡◌, ◌≤◌};
 ghost use Rattle.filter.specs.Finished.{outputs};
 ghost use Rattle.picture.specs.Accepted.{Accepted};
-ghost use Rattle.picture.specs.Given.{bare};
+ghost use Rattle.picture.specs.Given.{bare, planes_of};
 ghost use Rattle.picture.specs.Ledger.{any_of};
-ghost use Rattle.picture.specs.Lent.{picture_given, picture_now, planes_given, planes_left, planes_now};
+ghost use Rattle.picture.specs.Lent.{picture_given};
 ghost use Rattle.tile_check.specs.Answer.{Checkable, compared, differing, outcome, told};
 ghost use Rattle.tile_check.specs.Answer.{after, scratch_tests, written};
-ghost use Rattle.tile_check.specs.Lent.{scratch_given, scratch_left};
+ghost use Rattle.tile_check.specs.Lent.{scratch_of};
 
 use crate::TileAnswer;
 use crate::cuts::{alone, compare_cut};
@@ -58,12 +58,12 @@ fn compare_tile(
     owncb: &mut [u16],
     owncr: &mut [u16],
 ) -> TileAnswer
-    requires { Accepted (picture_now settings y cb cr cells slices columns rows) (planes_now outy outcb outcr) }
-    ensures result_value { told result ≡ compared (picture_given settings y cb cr cells slices columns rows) at
-        (scratch_given cuty cutcb cutcr cutcells owny owncb owncr) (planes_given outy outcb outcr) }
-    ensures owncr_value { scratch_left cuty cutcb cutcr cutcells owny owncb owncr ≡
-        written (picture_given settings y cb cr cells slices columns rows) at
-        (scratch_given cuty cutcb cutcr cutcells owny owncb owncr) }
+    requires { Accepted (picture_given settings y.now cb.now cr.now cells.now slices.now columns.now rows.now) (planes_of outy.now outcb.now outcr.now) }
+    ensures answer { told result ≡ compared (picture_given settings y.now cb.now cr.now cells.now slices.now columns.now rows.now) at
+        (scratch_of cuty.old cutcb.old cutcr.old cutcells.old owny.old owncb.old owncr.old) (planes_of outy.now outcb.now outcr.now) }
+    ensures scratch { scratch_of cuty.new cutcb.new cutcr.new cutcells.new owny.new owncb.new owncr.new ≡
+        written (picture_given settings y.now cb.now cr.now cells.now slices.now columns.now rows.now) at
+        (scratch_of cuty.old cutcb.old cutcr.old cutcells.old owny.old owncb.old owncr.old) }
 {
     if (columns.len() <= at.column) | (rows.len() <= at.row) {
         return TileAnswer::NoTile;
@@ -112,16 +112,16 @@ pub fn check_tile(
     owncb: &mut [u16],
     owncr: &mut [u16],
 ) -> TileAnswer
-    ensures result_value { told result ≡
-        outcome (picture_given settings y cb cr cells slices columns rows) (planes_given outy outcb outcr) at
-        (scratch_given cuty cutcb cutcr cutcells owny owncb owncr) }
-    ensures result_value_2 { Checkable (picture_given settings y cb cr cells slices columns rows) (planes_given outy outcb outcr) at
-        (scratch_given cuty cutcb cutcr cutcells owny owncb owncr) → told result ≡ differing 0 }
-    ensures outcr_value { planes_left outy outcb outcr ≡
-        outputs (picture_given settings y cb cr cells slices columns rows) (planes_given outy outcb outcr) }
-    ensures owncr_value { scratch_left cuty cutcb cutcr cutcells owny owncb owncr ≡
-        after (picture_given settings y cb cr cells slices columns rows) (planes_given outy outcb outcr) at
-        (scratch_given cuty cutcb cutcr cutcells owny owncb owncr) }
+    ensures answer { told result ≡
+        outcome (picture_given settings y.now cb.now cr.now cells.now slices.now columns.now rows.now) (planes_of outy.old outcb.old outcr.old) at
+        (scratch_of cuty.old cutcb.old cutcr.old cutcells.old owny.old owncb.old owncr.old) }
+    ensures agrees { Checkable (picture_given settings y.now cb.now cr.now cells.now slices.now columns.now rows.now) (planes_of outy.old outcb.old outcr.old) at
+        (scratch_of cuty.old cutcb.old cutcr.old cutcells.old owny.old owncb.old owncr.old) → told result ≡ differing 0 }
+    ensures planes { planes_of outy.new outcb.new outcr.new ≡
+        outputs (picture_given settings y.now cb.now cr.now cells.now slices.now columns.now rows.now) (planes_of outy.old outcb.old outcr.old) }
+    ensures scratch { scratch_of cuty.new cutcb.new cutcr.new cutcells.new owny.new owncb.new owncr.new ≡
+        after (picture_given settings y.now cb.now cr.now cells.now slices.now columns.now rows.now) (planes_of outy.old outcb.old outcr.old) at
+        (scratch_of cuty.old cutcb.old cutcr.old cutcells.old owny.old owncb.old owncr.old) }
 {
     let answer = apply_deblocking(
         settings,

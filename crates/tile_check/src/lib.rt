@@ -1,4 +1,6 @@
 // Term 3 as a run: a tile is cut out, filtered alone, and compared with the same tile filtered in its picture.
+#![tactic(auto)]
+
 mod cuts;
 mod driver;
 

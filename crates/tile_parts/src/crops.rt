@@ -1,7 +1,6 @@
 // A part of a list of rows, copied row by row. Each sample's place is computed anew: this is for a check and not for
 // the filter.
 ghost use Rattle.std.specs.Prelude.{◌≡◌, ◌*◌, length};
-ghost use Rattle.picture.specs.Lent.{given, left};
 ghost use Rattle.picture.specs.Plane.{crop};
 ghost use Rattle.tile_parts.specs.Parts.{part_of, Room, SampleOf, place_of};
 
@@ -21,7 +20,7 @@ fn place_of(stride: usize, part: Part, k: usize) -> usize
 pub(crate) fn crop_u16(from: &[u16], stride: usize, part: Part, to: &mut [u16])
     requires room { Room (part_of part) stride from.now }
     requires to_len { length to.old ≡ part.width * part.height }
-    ensures { left to ≡ crop (given from) stride (part_of part) }
+    ensures { to.new ≡ crop from.now stride (part_of part) }
 {
     let mut k = 0;
     while k < to.len() {
@@ -35,7 +34,7 @@ pub(crate) fn crop_u16(from: &[u16], stride: usize, part: Part, to: &mut [u16])
 pub(crate) fn crop_u8(from: &[u8], stride: usize, part: Part, to: &mut [u8])
     requires room { Room (part_of part) stride from.now }
     requires to_len { length to.old ≡ part.width * part.height }
-    ensures { left to ≡ crop (given from) stride (part_of part) }
+    ensures { to.new ≡ crop from.now stride (part_of part) }
 {
     let mut k = 0;
     while k < to.len() {

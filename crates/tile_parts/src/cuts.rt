@@ -1,6 +1,6 @@
 // A tile's part of all the planes, and of the cell records: copied out, and counted.
+ghost use Rattle.picture.specs.Given.{planes_of};
 ghost use Rattle.std.specs.Prelude.{◌≡◌};
-ghost use Rattle.picture.specs.Lent.{given, left, planes_given, planes_left, planes_now};
 ghost use Rattle.tile_parts.specs.Cuts.{CutReady, Rooms, Sized, differing_planes, part_cells, part_planes};
 ghost use Rattle.tile_parts.specs.Parts.{part_of};
 
@@ -24,9 +24,9 @@ pub fn make_cut(
     cutcells: &mut [u8],
 )
     requires { CutReady settings (part_of luma)
-        (planes_now y cb cr) cells.now (planes_now cuty cutcb cutcr) cutcells.old }
-    ensures cutcr_value { planes_left cuty cutcb cutcr ≡ part_planes settings (part_of luma) (planes_given y cb cr) }
-    ensures cutcells_value { left cutcells ≡ part_cells settings (part_of luma) (given cells) }
+        (planes_of y.now cb.now cr.now) cells.now (planes_of cuty.old cutcb.old cutcr.old) cutcells.old }
+    ensures planes { planes_of cuty.new cutcb.new cutcr.new ≡ part_planes settings (part_of luma) (planes_of y.now cb.now cr.now) }
+    ensures cells { cutcells.new ≡ part_cells settings (part_of luma) cells.now }
 {
     let format = settings.chroma_format;
     let wide = LumaColumn(settings.width as usize);
@@ -49,10 +49,10 @@ pub fn differing_samples(
     outcb: &[u16],
     outcr: &[u16],
 ) -> usize
-    requires rooms { Rooms settings (part_of luma) (planes_now outy outcb outcr) }
-    requires sized { Sized settings (part_of luma) (planes_now owny owncb owncr) }
+    requires rooms { Rooms settings (part_of luma) (planes_of outy.now outcb.now outcr.now) }
+    requires sized { Sized settings (part_of luma) (planes_of owny.now owncb.now owncr.now) }
     ensures { result ≡ differing_planes settings (part_of luma)
-        (planes_given owny owncb owncr) (planes_given outy outcb outcr) }
+        (planes_of owny.now owncb.now owncr.now) (planes_of outy.now outcb.now outcr.now) }
 {
     let format = settings.chroma_format;
     let wide = LumaColumn(settings.width as usize);

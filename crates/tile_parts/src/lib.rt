@@ -1,5 +1,7 @@
 // The parts of a tile, in a picture's planes and in its cell records, and what is done with a part of a list of rows:
 // it is copied out, or compared with a list of its own size.
+#![tactic(auto)]
+
 mod counts;
 mod crops;
 mod cuts;

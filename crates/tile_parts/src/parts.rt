@@ -1,7 +1,6 @@
 // Where a tile lies: its part of each plane and of the cell records.
 ghost use Rattle.std.specs.Prelude.{◌≡◌, ◌-◌, ◌<◌, ◌≤◌, ◌*◌, ◌^◌, length};
 ghost use Rattle.picture.specs.Cut.{tile_part};
-ghost use Rattle.picture.specs.Lent.{given};
 ghost use Rattle.picture.specs.Scale.{Y, cell_of};
 ghost use Rattle.picture.specs.Tile.{tile_first, tile_end};
 ghost use Rattle.tile_parts.specs.Parts.{part_of, chroma_part, bytes_part};
@@ -21,7 +20,7 @@ fn first_of_ctb(ctb: u16, log2: u32) -> usize
 // The first luma column of tile column i, or luma row of tile row i.
 fn tile_first(starts: &[u16], log2: u32, i: usize) -> usize
     requires { (i < length starts.now) × (log2 ≤ 6) }
-    ensures { result ≡ tile_first (given starts) (2 ^ log2) i }
+    ensures { result ≡ tile_first starts.now (2 ^ log2) i }
 {
     first_of_ctb(starts[i], log2)
 }
@@ -29,7 +28,7 @@ fn tile_first(starts: &[u16], log2: u32, i: usize) -> usize
 // The luma column or row that it ends before; `total` is the picture's width or height.
 fn tile_end(starts: &[u16], log2: u32, total: usize, i: usize) -> usize
     requires { (i < length starts.now) × (log2 ≤ 6) }
-    ensures { result ≡ tile_end (given starts) (2 ^ log2) total i }
+    ensures { result ≡ tile_end starts.now (2 ^ log2) total i }
 {
     if i + 1 < starts.len() {
         return tile_first(starts, log2, i + 1);
@@ -40,7 +39,7 @@ fn tile_end(starts: &[u16], log2: u32, total: usize, i: usize) -> usize
 // Its luma columns or rows. Starts that do not rise give none.
 fn tile_span(starts: &[u16], log2: u32, total: usize, i: usize) -> usize
     requires { (i < length starts.now) × (log2 ≤ 6) }
-    ensures { result ≡ tile_end (given starts) (2 ^ log2) total i - tile_first (given starts) (2 ^ log2) i }
+    ensures { result ≡ tile_end starts.now (2 ^ log2) total i - tile_first starts.now (2 ^ log2) i }
 {
     let first = tile_first(starts, log2, i);
     let end = tile_end(starts, log2, total, i);
@@ -53,7 +52,7 @@ fn tile_span(starts: &[u16], log2: u32, total: usize, i: usize) -> usize
 // A tile's part of the luma plane.
 pub fn luma_part(settings: Settings, columns: &[u16], rows: &[u16], at: TileAt) -> Part
     requires { OnPicture (tiled settings columns.now rows.now) at }
-    ensures { part_of result ≡ tile_part (tiled settings (given columns) (given rows)) at.column at.row Y }
+    ensures { part_of result ≡ tile_part (tiled settings columns.now rows.now) at.column at.row Y }
 {
     let log2 = settings.log2_ctb;
     Part {
@@ -67,7 +66,7 @@ pub fn luma_part(settings: Settings, columns: &[u16], rows: &[u16], at: TileAt) 
 // The luma columns and rows of a tile's cut, by which the lists that are lent for it are sized: none where there is no
 // such tile.
 pub fn cut_size(settings: Settings, columns: &[u16], rows: &[u16], at: TileAt) -> CutSize
-    ensures { result ≡ cut_size (tiled settings (given columns) (given rows)) at }
+    ensures { result ≡ cut_size (tiled settings columns.now rows.now) at }
 {
     if (6 < settings.log2_ctb) | (columns.len() <= at.column) | (rows.len() <= at.row) {
         return CutSize {

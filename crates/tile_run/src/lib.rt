@@ -1,4 +1,6 @@
 // Every tile of a picture tried: term 3 as a run.
+#![tactic(auto)]
+
 mod cut_lists;
 mod lines;
 mod one_tile;

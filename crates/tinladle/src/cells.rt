@@ -1,5 +1,4 @@
 // A stored cell list that C lends, converted.
-ghost use Rattle.picture.specs.Lent.{given, left};
 ghost use Rattle.tinladle.specs.Lists.{Converted};
 
 use conversion::convert_cells;
@@ -8,7 +7,7 @@ use conversion::convert_cells;
 // always 0.
 #[unsafe(no_mangle)]
 pub extern "C" fn tinladle_convert_cells(cells: &[u8], out_cells: &mut [u8], place: &mut u64) -> u32
-    ensures { Converted (given cells) (given out_cells) result place.new (left out_cells) }
+    ensures { Converted cells.now out_cells.old result place.new out_cells.new }
 {
     *place = 0;
     if convert_cells(cells, out_cells) {

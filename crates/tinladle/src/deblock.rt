@@ -1,5 +1,6 @@
 // The stage on planes and lists that C lends.
-ghost use Rattle.picture.specs.Lent.{picture_given, planes_given, planes_left};
+ghost use Rattle.picture.specs.Given.{planes_of};
+ghost use Rattle.picture.specs.Lent.{picture_given};
 ghost use Rattle.tinladle.specs.Passed.{Deblocked, passed};
 
 use ledger::{number_of, place_of};
@@ -33,8 +34,8 @@ pub extern "C" fn tinladle_deblock(
 ) -> u32
     ensures { Deblocked
         (picture_given (passed width height chroma_format luma_depth chroma_depth log2_ctb
-        cb_qp_offset cr_qp_offset pcm_loop_filter_disabled) y cb cr cells slices tile_columns tile_rows)
-        (planes_given out_y out_cb out_cr) result place.new (planes_left out_y out_cb out_cr) }
+        cb_qp_offset cr_qp_offset pcm_loop_filter_disabled) y.now cb.now cr.now cells.now slices.now tile_columns.now tile_rows.now)
+        (planes_of out_y.old out_cb.old out_cr.old) result place.new (planes_of out_y.new out_cb.new out_cr.new) }
 {
     let settings = Settings {
         width: width,

@@ -1,5 +1,7 @@
 // The filter for programs in other languages, under C's calling convention: a module for each function.
 // include/tinladle.h declares them.
+#![tactic(auto)]
+
 mod cells;
 mod deblock;
 mod passed;

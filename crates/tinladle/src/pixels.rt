@@ -1,7 +1,6 @@
 // A pixel of planes that C lends, as floats.
 ghost use Rattle.std.specs.Prelude.{[], ◌∷◌};
-ghost use Rattle.picture.specs.Given.{of_planes};
-ghost use Rattle.picture.specs.Lent.{planes_given};
+ghost use Rattle.picture.specs.Given.{of_planes, planes_of};
 ghost use Rattle.tinladle.specs.Floats.{PixelStored};
 ghost use Rattle.tinladle.specs.Passed.{passed_planes};
 
@@ -29,7 +28,7 @@ pub extern "C" fn tinladle_pixel(
     place: &mut u64,
 ) -> u32
     ensures { PixelStored
-        (of_planes (passed_planes width height chroma_format luma_depth chroma_depth) (planes_given y cb cr))
+        (of_planes (passed_planes width height chroma_format luma_depth chroma_depth) (planes_of y.now cb.now cr.now))
         column row (luma.old ∷ cb_part.old ∷ cr_part.old ∷ []) result place.new
         (luma.new ∷ cb_part.new ∷ cr_part.new ∷ []) }
 {

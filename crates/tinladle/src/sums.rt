@@ -1,7 +1,6 @@
 // The picture checksums of planes that C lends.
 ghost use Rattle.std.specs.Prelude.{[], ◌∷◌};
-ghost use Rattle.picture.specs.Given.{of_planes};
-ghost use Rattle.picture.specs.Lent.{planes_given};
+ghost use Rattle.picture.specs.Given.{of_planes, planes_of};
 ghost use Rattle.tinladle.specs.Passed.{passed_planes};
 ghost use Rattle.tinladle.specs.Sums.{Summed};
 
@@ -27,7 +26,7 @@ pub extern "C" fn tinladle_checksum(
     place: &mut u64,
 ) -> u32
     ensures { Summed
-        (of_planes (passed_planes width height chroma_format luma_depth chroma_depth) (planes_given y cb cr))
+        (of_planes (passed_planes width height chroma_format luma_depth chroma_depth) (planes_of y.now cb.now cr.now))
         (sum_y.old ∷ sum_cb.old ∷ sum_cr.old ∷ []) result place.new
         (sum_y.new ∷ sum_cb.new ∷ sum_cr.new ∷ []) }
 {

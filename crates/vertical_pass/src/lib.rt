@@ -1,9 +1,10 @@
 // The pass over a component's vertical edges, in place: the strips of a band, the bands of a plane. It serves luma and
 // chroma.
+#![tactic(auto)]
+
 ghost use Rattle.std.specs.Prelude.{◌≡◌, ◌+◌, ◌-◌, ◌*◌, ◌%◌, ◌≤◌, length};
 ghost use Rattle.filter.specs.Segment.{vertical};
 ghost use Rattle.strips.specs.Passed.{pass_for};
-ghost use Rattle.picture.specs.Lent.{given, left};
 ghost use Rattle.picture.specs.Plane.{at};
 ghost use Rattle.planes.specs.Rows.{Holds, Rows, seen};
 ghost use Rattle.segments.specs.Ready.{Ready};
@@ -27,8 +28,8 @@ fn vertical_band(
     requires ready { Ready k f cells.now slices.now tcs.now }
     requires s_len { (length s.old ≡ (row1 - row0) * f.columns)
         × (row0 % 4 ≡ 0) × (row1 % 4 ≡ 0) × (row1 ≤ f.rows) }
-    ensures { Rows f.columns row0 row1 (left s)
-        (pass_for vertical k f (given cells) (given slices) (given starts) (seen f.columns row0 (given s))) }
+    ensures { Rows f.columns row0 row1 s.new
+        (pass_for vertical k f cells.now slices.now starts.now (seen f.columns row0 s.old)) }
 {
     let mut r = row0;
     while r < row1 {
@@ -51,8 +52,8 @@ pub fn vertical_pass(
 )
     requires ready { Ready k f cells.now slices.now tcs.now }
     requires s_len { length s.old ≡ f.rows * f.columns }
-    ensures { Holds f.columns f.rows (left s)
-        (pass_for vertical k f (given cells) (given slices) (given starts) (at (given s) f.columns)) }
+    ensures { Holds f.columns f.rows s.new
+        (pass_for vertical k f cells.now slices.now starts.now (at s.old f.columns)) }
 {
     let mut r = 0;
     while r < f.rows {

@@ -1,4 +1,6 @@
 // The lines of a segment's window, read from a lent list of samples and written there.
+#![tactic(auto)]
+
 mod line;
 mod rows;
 

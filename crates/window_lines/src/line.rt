@@ -1,7 +1,6 @@
 // Lines of eight samples, `step` apart, read and written.
 ghost use Rattle.std.specs.Prelude.{◌≡◌, ◌+◌, ◌*◌, ◌<◌, length};
 ghost use Rattle.filter.specs.Kernel.{samples_of};
-ghost use Rattle.picture.specs.Lent.{given, left};
 ghost use Rattle.planes.specs.Window.{Put, window_at};
 ghost use Rattle.window_lines.specs.Line.{line_at, lines_of};
 
@@ -10,7 +9,7 @@ use lines::Line;
 
 pub fn take_line(s: &[u16], at: usize, step: usize) -> Line
     requires { at + 7 * step < length s.now }
-    ensures { result ≡ line_at (given s) at step }
+    ensures { result ≡ line_at s.now at step }
 {
     Line {
         p3: s[at],
@@ -26,7 +25,7 @@ pub fn take_line(s: &[u16], at: usize, step: usize) -> Line
 
 pub fn put_line(s: &mut [u16], at: usize, step: usize, l: Line)
     requires { (at + 7 * step < length s.old) × (0 < step) }
-    ensures { Put 8 at step (samples_of l) (given s) (left s) }
+    ensures { Put 8 at step (samples_of l) s.old s.new }
 {
     s[at] = l.p3;
     s[at + step] = l.p2;
@@ -41,7 +40,7 @@ pub fn put_line(s: &mut [u16], at: usize, step: usize, l: Line)
 // The four lines of a window.
 pub fn take_lines(s: &[u16], base: usize, across: usize, along: usize) -> Lines
     requires { base + 3 * along + 7 * across < length s.now }
-    ensures { result ≡ lines_of (window_at (given s) base across along) }
+    ensures { result ≡ lines_of (window_at s.now base across along) }
 {
     Lines {
         l0: take_line(s, base, across),

@@ -1,7 +1,6 @@
 // Four lines side by side, written row by row, four neighbours at a time: a form that the compiler can turn into vector
 // instructions.
 ghost use Rattle.std.specs.Prelude.{[], ◌∷◌, ◌+◌, ◌*◌, ◌<◌, length};
-ghost use Rattle.picture.specs.Lent.{given, left};
 ghost use Rattle.planes.specs.Window.{Filtered, Put, Strides};
 ghost use Rattle.window_lines.specs.Line.{laid};
 
@@ -9,7 +8,7 @@ use crate::Lines;
 
 pub fn put_row(s: &mut [u16], at: usize, a: u16, b: u16, c: u16, d: u16)
     requires { at + 3 < length s.old }
-    ensures { Put 4 at 1 (a ∷ b ∷ c ∷ d ∷ []) (given s) (left s) }
+    ensures { Put 4 at 1 (a ∷ b ∷ c ∷ d ∷ []) s.old s.new }
 {
     s[at] = a;
     s[at + 1] = b;
@@ -20,7 +19,7 @@ pub fn put_row(s: &mut [u16], at: usize, a: u16, b: u16, c: u16, d: u16)
 pub fn put_rows(s: &mut [u16], base: usize, across: usize, w: Lines)
     requires across_in_bounds { base + 3 + 7 * across < length s.old }
     requires strides { Strides across 1 }
-    ensures { Filtered 4 (laid w) base across 1 (given s) (left s) }
+    ensures { Filtered 4 (laid w) base across 1 s.old s.new }
 {
     let a = w.l0;
     let b = w.l1;
