@@ -13,7 +13,7 @@ use bench_record::{Head, line_of_record};
 use lines::{Line, LumaAnswer, LumaDecision};
 
 // What the four lines of a segment are decided and filtered by; `largest` is the depth's largest sample.
-#[derive(Drop)]
+#[derive(Clone, Copy)]
 pub(crate) struct Thresholds {
     pub beta: u16,
     pub tc: u16,

@@ -5,7 +5,7 @@ ghost use Rattle.bench_record.specs.Record.{head_of, sample_at, line_of_record};
 use lines::Line;
 
 // The bytes before the samples. A QP's byte is 64 more than the QP, an offset's 6 more than the offset.
-#[derive(Drop)]
+#[derive(Clone, Copy)]
 pub struct Head {
     pub depth: u8,
     pub bs: u8,

@@ -9,7 +9,7 @@ ghost use Rattle.checks.specs.Lengths.{bad_lengths, lent_tests, list_tests, plan
 use picture::{LumaColumn, Settings, cell_bytes, chroma_rows, row_of_cells};
 
 // What a call is lent to be written beside a picture, by its lengths.
-#[derive(Drop)]
+#[derive(Clone, Copy)]
 pub enum OutputLengths {
     None,
     Planes { y: usize, cb: usize, cr: usize },

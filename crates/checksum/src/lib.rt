@@ -8,7 +8,7 @@ use ledger::Verdict;
 pub use planes::picture_checksums;
 
 // What is answered: the first check that applies, the sum of a monochrome picture, or a sum for each plane.
-#[derive(Drop)]
+#[derive(Clone, Copy)]
 pub enum Checksums {
     Refused(Verdict),
     One(u32),

@@ -13,7 +13,7 @@ use picture::Slice;
 
 // What is to be known of the component that is filtered. `offset` is the Cb or Cr offset plus 12, which luma does not
 // read; `largest` is the largest sample of the depth.
-#[derive(Drop)]
+#[derive(Clone, Copy)]
 pub struct Component {
     pub luma: bool,
     pub format: u32,
@@ -23,14 +23,14 @@ pub struct Component {
 }
 
 // Whether the slices of P and Q let a segment be filtered; if so, with Q's slice, whose offsets it is filtered by.
-#[derive(Drop)]
+#[derive(Clone, Copy)]
 pub enum SliceGate {
     Closed,
     Open(Slice),
 }
 
 // How an open luma segment is filtered: its scaled thresholds and the largest sample.
-#[derive(Drop)]
+#[derive(Clone, Copy)]
 pub struct LumaFilter {
     pub beta: u16,
     pub tc: u16,
@@ -38,7 +38,7 @@ pub struct LumaFilter {
 }
 
 // How an open chroma segment is filtered.
-#[derive(Drop)]
+#[derive(Clone, Copy)]
 pub struct ChromaFilter {
     pub tc: u16,
     pub largest: u16,

@@ -8,7 +8,7 @@ pub use parts::{colour_of, part};
 pub use way_back::find_sample;
 
 // The three parts of a pixel.
-#[derive(Drop)]
+#[derive(Clone, Copy)]
 pub struct Colour {
     pub luma: f32,
     pub cb: f32,
@@ -16,7 +16,7 @@ pub struct Colour {
 }
 
 // What the way back finds: the sample that gives the float, or that none does.
-#[derive(Drop)]
+#[derive(Clone, Copy)]
 pub enum Found {
     Sample(u16),
     Nothing,

@@ -12,7 +12,7 @@ pub use order::check;
 pub use planes::check_planes;
 
 // What the ledger answers. A place is that of the first bad record, start, cell or sample.
-#[derive(Drop)]
+#[derive(Clone, Copy)]
 pub enum Verdict {
     Accepted,
     Size,

@@ -24,7 +24,7 @@ pub use strong::strong_line;
 pub use weak::weak_line;
 
 // The eight samples across a luma edge: p3 is furthest from the edge on the P side, q3 on the Q side.
-#[derive(Drop)]
+#[derive(Clone, Copy)]
 pub struct Line {
     pub p3: u16,
     pub p2: u16,
@@ -37,7 +37,7 @@ pub struct Line {
 }
 
 // How the four lines of a luma segment are filtered; `Weak` says for P and for Q whether the second sample moves too.
-#[derive(Drop)]
+#[derive(Clone, Copy)]
 pub enum LumaDecision {
     Skip,
     Strong,
@@ -45,21 +45,21 @@ pub enum LumaDecision {
 }
 
 // How many samples next to the edge a decision may change, on the P side and on the Q side.
-#[derive(Drop)]
+#[derive(Clone, Copy)]
 pub struct SideCounts {
     pub p: u8,
     pub q: u8,
 }
 
 // What is answered of a luma segment: its decision, and what that may change.
-#[derive(Drop)]
+#[derive(Clone, Copy)]
 pub struct LumaAnswer {
     pub decision: LumaDecision,
     pub counts: SideCounts,
 }
 
 // The four samples around a chroma edge.
-#[derive(Drop)]
+#[derive(Clone, Copy)]
 pub struct ChromaLine {
     pub p1: u16,
     pub p0: u16,

@@ -8,7 +8,7 @@ ghost use Rattle.moves.specs.Farthest.{Farthest};
 use ints::abs_diff;
 
 // The largest distance, and the first place that has it.
-#[derive(Drop)]
+#[derive(Clone, Copy)]
 pub struct Move {
     pub distance: u32,
     pub place: usize,

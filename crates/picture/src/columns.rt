@@ -5,19 +5,19 @@ ghost use Rattle.std.specs.Prelude.{◌≡◌, ◌*◌, ◌-◌, ◌≤◌, ◌<
 ghost use Rattle.picture.specs.Scale.{chroma_across, from_luma, to_luma, cell_of, ctb_of};
 
 // A count of luma columns: px in the Rust.
-#[derive(Drop)]
+#[derive(Clone, Copy)]
 pub struct LumaColumn(pub usize);
 
 // A count of chroma columns: cx in the Rust.
-#[derive(Drop)]
+#[derive(Clone, Copy)]
 pub struct ChromaColumn(pub usize);
 
 // A count of columns of 4 by 4 cells: gx in the Rust.
-#[derive(Drop)]
+#[derive(Clone, Copy)]
 pub struct CellColumn(pub usize);
 
 // A count of columns of CTBs: px >> log2_ctb in the Rust.
-#[derive(Drop)]
+#[derive(Clone, Copy)]
 pub struct CtbColumn(pub usize);
 
 impl LumaColumn {

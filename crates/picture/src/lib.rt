@@ -15,7 +15,7 @@ pub use slices::slice_at;
 pub use tiles::{same_tile_column, same_tile_row};
 
 // A picture's sizes and settings, as a caller gives them; nothing is in range until it was checked.
-#[derive(Drop)]
+#[derive(Clone, Copy)]
 pub struct Settings {
     pub width: u32,
     pub height: u32,
@@ -29,7 +29,7 @@ pub struct Settings {
 }
 
 // One 4 by 4 luma block. The QP is held 64 more; bsv and bsh are the bS of the edge on its left and on its top side.
-#[derive(Drop)]
+#[derive(Clone, Copy)]
 pub struct Cell {
     pub qp: u8,
     pub flags: u8,
@@ -39,7 +39,7 @@ pub struct Cell {
 }
 
 // One slice's deblocking parameters. The offsets are held 6 more.
-#[derive(Drop)]
+#[derive(Clone, Copy)]
 pub struct Slice {
     pub disabled: bool,
     pub beta: u8,

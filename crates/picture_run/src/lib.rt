@@ -10,7 +10,7 @@ pub use turn::{
 
 // What is shown of a picture that the stage was run on: what it left, how far it moved samples, or the checksums of
 // what it left.
-#[derive(Drop)]
+#[derive(Clone, Copy)]
 enum Shown {
     Planes,
     Moves,
@@ -18,7 +18,7 @@ enum Shown {
 }
 
 // What is done with each picture.
-#[derive(Drop)]
+#[derive(Clone, Copy)]
 enum Task {
     Stage(Shown),
     Tiles,

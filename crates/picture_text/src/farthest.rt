@@ -5,7 +5,7 @@ use ledger::{Verdict, number_of, place_of};
 use moves::Move;
 
 // The farthest moves of the three planes.
-#[derive(Drop)]
+#[derive(Clone, Copy)]
 pub struct Moves {
     pub y: Move,
     pub cb: Move,

@@ -4,7 +4,7 @@ ghost use Rattle.std.specs.Prelude.{false, ◌≡◌};
 use libc::STDOUT_FILENO;
 
 // The fingerprints of a picture's three planes.
-#[derive(Drop)]
+#[derive(Clone, Copy)]
 pub struct Fingerprints {
     pub y: u64,
     pub cb: u64,

@@ -6,7 +6,7 @@ use picture_record::{SAMPLES, word};
 use tile_parts::Part;
 
 // The first plane is compared with the part of the second, which has rows of `stride` samples.
-#[derive(Drop)]
+#[derive(Clone, Copy)]
 pub(crate) struct Pair {
     pub part: Part,
     pub stride: usize,

@@ -12,7 +12,7 @@ pub use samples::{Sample, is_plane};
 use samples::{sample_of, view_size};
 
 // The fields are closed: other crates have only the views that `plane_view` makes.
-#[derive(Drop)]
+#[derive(Clone, Copy)]
 pub struct PlaneView<'a> {
     samples: &'a [u16],
     width: usize,

@@ -12,7 +12,7 @@ pub use way_back::sample_of;
 
 // What a pixel is answered with: the first check of the planes that applies, that it lies outside them, or its part or
 // parts.
-#[derive(Drop)]
+#[derive(Clone, Copy)]
 pub enum Pixel {
     Refused(Verdict),
     Outside,
@@ -21,7 +21,7 @@ pub enum Pixel {
 }
 
 // What the way back answers: that the depth is outside 8 to 16, that no sample gives the float, or the sample.
-#[derive(Drop)]
+#[derive(Clone, Copy)]
 pub enum Recovered {
     Depth,
     NoSample,

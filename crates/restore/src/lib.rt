@@ -11,7 +11,7 @@ pub use plane::restore;
 pub use rows::cell_row;
 
 // The switch for PCM cells, and whether any cell is suppressed with it. Where none is, nothing is restored.
-#[derive(Drop)]
+#[derive(Clone, Copy)]
 pub struct Restoration {
     pub pcm: bool,
     pub any: bool,

@@ -14,7 +14,7 @@ use picture_text::{bits_of, put_number};
 use recogniser::{Recovered, sample_of};
 
 // What is shown of the samples of a depth.
-#[derive(Drop)]
+#[derive(Clone, Copy)]
 struct Trip {
     count: u32,
     patterns: u64,

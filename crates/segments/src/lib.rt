@@ -12,7 +12,7 @@ pub use scales::luma_row_at;
 
 // The plane that is filtered, in its own samples, with the height of a band of its passes; and the picture around it,
 // in cells, with its CTB size.
-#[derive(Drop)]
+#[derive(Clone, Copy)]
 pub struct Frame {
     pub columns: usize,
     pub rows: usize,
@@ -23,7 +23,7 @@ pub struct Frame {
 }
 
 // The cells P and Q of a segment, and whether they lie in one tile.
-#[derive(Drop)]
+#[derive(Clone, Copy)]
 pub struct Sides {
     pub p: Cell,
     pub q: Cell,
@@ -31,7 +31,7 @@ pub struct Sides {
 }
 
 // How a segment is filtered: its thresholds. The largest sample is the component's and does not travel with each.
-#[derive(Drop)]
+#[derive(Clone, Copy)]
 pub enum Segment {
     Closed,
     Luma { beta: u16, tc: u16 },

@@ -8,7 +8,7 @@ mod plane;
 pub use driver::apply_deblocking;
 
 // Which edges a pass is over.
-#[derive(Drop)]
+#[derive(Clone, Copy)]
 enum Direction {
     Vertical,
     Horizontal,

@@ -11,7 +11,7 @@ use lines::LumaAnswer;
 pub use vertical::vertical_strip;
 
 // What was done at a segment: nothing, the luma filter by this decision, with its counts, or the chroma filter.
-#[derive(Drop)]
+#[derive(Clone, Copy)]
 pub enum Treatment {
     Closed,
     Luma(LumaAnswer),

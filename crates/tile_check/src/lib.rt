@@ -9,7 +9,7 @@ use ledger::Verdict;
 
 // What the check of a tile answers: the picture is refused; it has no such tile; a list lent for the cut has not its
 // exact length; or the count of samples that differ.
-#[derive(Drop)]
+#[derive(Clone, Copy)]
 pub enum TileAnswer {
     Refused(Verdict),
     NoTile,

@@ -12,7 +12,7 @@ pub use cuts::{differing_samples, make_cut};
 pub use parts::{cut_size, luma_part};
 
 // A part of a list of rows: its first column and row, its columns and rows.
-#[derive(Drop)]
+#[derive(Clone, Copy)]
 pub struct Part {
     pub x: usize,
     pub y: usize,
@@ -21,14 +21,14 @@ pub struct Part {
 }
 
 // A tile by its column and row among the tiles, both from 0.
-#[derive(Drop)]
+#[derive(Clone, Copy)]
 pub struct TileAt {
     pub column: usize,
     pub row: usize,
 }
 
 // The luma columns and rows of a cut.
-#[derive(Drop)]
+#[derive(Clone, Copy)]
 pub struct CutSize {
     pub width: usize,
     pub height: usize,

@@ -9,7 +9,7 @@ mod tiles;
 pub use tiles::tile_lines;
 
 // How many samples are lent for each of three planes.
-#[derive(Drop)]
+#[derive(Clone, Copy)]
 pub struct LentSamples {
     pub y: usize,
     pub cb: usize,

@@ -8,7 +8,7 @@ use tile_check::TileAnswer;
 use tile_parts::{CutSize, TileAt};
 
 // What is tried: a tile of a picture, with the list `wrong` of its cut one off its length, or none (0).
-#[derive(Drop)]
+#[derive(Clone, Copy)]
 pub(crate) struct Trial {
     pub number: u64,
     pub at: TileAt,

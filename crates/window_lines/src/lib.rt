@@ -9,7 +9,7 @@ use lines::Line;
 pub use rows::{put_row, put_rows};
 
 // The four lines of a segment.
-#[derive(Drop)]
+#[derive(Clone, Copy)]
 pub struct Lines {
     pub l0: Line,
     pub l1: Line,
