@@ -81,13 +81,13 @@ module _ (c : Component) (d : Direction) (across along : ℕ) (test : Place → 
       → ((e' l' : ℕ) → OnGrid across along e' l' → Earlier e' l' e l → test (at e' l') ≡ false)
       → head? (keep test (places_across c d across along)) ≡ some (at e l)
   unfolding places_across
-  first_open e l grid open before =
+  first_open e l grid here before =
       let k : ℕ = e / 8 - 1 in
       let hk : k < edges_in across = omega arith in
-      let here : at (8 * (k + 1)) (4 * (l / 4)) ≡ at e l = ap₂ at (omega arith) (omega arith) in
+      let there : at (8 * (k + 1)) (4 * (l / 4)) ≡ at e l = ap₂ at (omega arith) (omega arith) in
       first_in_turn test (edges_in across) of_edge k hk
       (λ i hi. edge_closed i (omega arith) (λ j hj. before _ _ (on_grid i j (omega arith) hj) (inl (omega arith))))
       (first_in_turn test (segments_along along) _ (l / 4) (omega arith)
       (λ j hj.
       alone _ (before _ _ (on_grid k j hk (omega arith)) (inr (omega arith, omega arith))))
-      (ap (λ (s : Place). head? (keep test (s ∷ []))) here ∙ rw open))
+      (ap (λ (s : Place). head? (keep test (s ∷ []))) there ∙ rw here))

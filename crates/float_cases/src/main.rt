@@ -6,10 +6,11 @@ ghost use Rattle.std.specs.Prelude.{◌≡◌};
 ghost use Rattle.std.specs.Float.{binary32};
 ghost use Rattle.std.specs.Float.Ieee.{of_bits};
 
-use libc::STDIN_FILENO;
 use picture_record::word;
 use picture_text::{put_recovered, stop};
 use recogniser::sample_of;
+
+const STDIN: i32 = 0;
 
 // The float of a bit pattern. Rattle has one NaN, which has no pattern: 0/0 makes it.
 fn float_of(bits: u32) -> f32
@@ -24,7 +25,7 @@ fn float_of(bits: u32) -> f32
 // The next record: the depth, luma or chroma, and the float's pattern. Answers whether to go on.
 fn one_float(number: u64) -> bool {
     let mut words = [0u8; 12];
-    let got = io::read_full(STDIN_FILENO, &mut words);
+    let got = io::read_full(STDIN, &mut words);
     if got == 0 {
         return false;
     }

@@ -1,7 +1,7 @@
 -- The bytes of slice and cell records and the tile starts, as the checks read them.
 use Prim.Native.Nat.{ℕ, zero, suc, ◌+◌, ◌-◌, ◌*◌, ◌/◌, ◌%◌, ◌≤◌, ◌<◌, min}
 use mathlib.Core.Path.{◌≡◌, refl, sym, ap, ◌∙◌}
-use mathlib.Core.Bool.{Bool, true, false, cond, not, ◌||◌, and_false, and_true}
+use mathlib.Core.Bool.{Bool, true, false, cond, not, ◌||◌, and-false, and-true}
 use mathlib.Core.List.{List, [], ◌∷◌, ◌++◌}
 use mathlib.Core.Logic.{◌⊎◌, inl, inr}
 use native.Mathlib.Nat.{add-zero, div-one}
@@ -76,8 +76,8 @@ qp_tests least qp low byte = go (either qp least) (either 115 qp)
 
 -- a strength beside the largest one
 pub strength_tests : (edge : Bool) (bs : ℕ) → ltb (cond edge 2 0) bs ≡ any_of (bad_strength edge bs)
-strength_tests true bs = rw (and_false (ltb 0 bs)) (one_test (ltb 2 bs))
-strength_tests false bs = rw (and_true (ltb 0 bs)) (go (either 2 bs))
+strength_tests true bs = rw (and-false (ltb 0 bs)) (one_test (ltb 2 bs))
+strength_tests false bs = rw (and-true (ltb 0 bs)) (go (either 2 bs))
   where
     go : (2 < bs) ⊎ (bs ≤ 2) → ltb 0 bs ≡ any_of (ltb 2 bs ∷ ltb 0 bs ∷ [])
     go (inl h) = rw (lt-ltb 2 bs h) (lt-ltb 0 bs (omega arith))

@@ -1,7 +1,7 @@
 -- That `plane_sample` means what it should: a plane gives its sample at each of its places, and nothing else gives one.
 -- And a plane of 3 columns and 2 rows, by computation.
 use Prim.Native.Nat.{ℕ, ◌*◌, ◌≤◌, ◌<◌}
-use mathlib.Core.Bool.{and_false}
+use mathlib.Core.Bool.{and-false}
 use mathlib.Core.List.{List, [], ◌∷◌}
 use mathlib.Core.Path.{◌≡◌, refl}
 use borrow.Author.Tests.{lt-ltb, le-ltb, eq-eqb, ne_eqb}
@@ -19,10 +19,10 @@ pub refused : (list : List ℕ) (w h x y : ℕ) → (length list ≡ w * h → �
 refused list w h x y none = simp (ne_eqb (length list) (w * h) none)
 
 pub right_of_it : (list : List ℕ) {w x : ℕ} (h y : ℕ) → w ≤ x → plane_sample list w h x y ≡ Outside
-right_of_it list {w} {x} h y past = simp (le-ltb x w past, and_false)
+right_of_it list {w} {x} h y past = simp (le-ltb x w past, and-false)
 
 pub below_it : (list : List ℕ) {h y : ℕ} (w x : ℕ) → h ≤ y → plane_sample list w h x y ≡ Outside
-below_it list {h} {y} w x past = simp (le-ltb y h past, and_false)
+below_it list {h} {y} w x past = simp (le-ltb y h past, and-false)
 
 abbrev six : List ℕ
 six = 10 ∷ 11 ∷ 12 ∷ 20 ∷ 21 ∷ 22 ∷ []

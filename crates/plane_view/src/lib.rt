@@ -1,6 +1,5 @@
-// A view of a plane: lent samples with their width and height, as RefPlane of the Rust's src/mc.rs. The borrow checker
-// covers no function over a struct that holds a reference: those here are few and thin, each proved by hand, and leave
-// the work to samples.rt. Whoever calls `plane_sample`, whose parameters are plain, needs no proof by hand.
+// A view of a plane: lent samples with their width and height, as RefPlane of the Rust's src/mc.rs. The functions over
+// the view are thin and leave the work to samples.rt.
 #![tactic(auto)]
 
 mod samples;
@@ -22,9 +21,9 @@ pub struct PlaneView<'a> {
 // The view of a plane. Samples that are no plane of that size are refused: their view is 0 by 0, so every place is
 // outside. An enum cannot hold a reference, so the refusal is no answer of its own; `is_plane` tells it.
 pub fn plane_view<'a>(samples: &'a [u16], width: usize, height: usize) -> PlaneView<'a>
-    ensures { (result.samples ≡ samples.entry)
-        × ((result.width ≡ (view_size samples.now width height).width)
-        × (result.height ≡ (view_size samples.now width height).height)) }
+    ensures samples { result.samples ≡ samples.entry }
+    ensures width { result.width ≡ (view_size samples.now width height).width }
+    ensures height { result.height ≡ (view_size samples.now width height).height }
 {
     let size = view_size(samples, width, height);
     PlaneView {

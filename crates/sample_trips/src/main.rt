@@ -9,9 +9,10 @@ ghost use Rattle.sample_trips.specs.Trip.{patterns};
 use fingerprint::{BASIS, with_word};
 use float_samples::part;
 use ints::largest_at;
-use libc::STDOUT_FILENO;
 use picture_text::{bits_of, put_number};
 use recogniser::{Recovered, sample_of};
+
+const STDOUT: i32 = 1;
 
 // What is shown of the samples of a depth.
 #[derive(Clone, Copy)]
@@ -56,16 +57,16 @@ fn put_trip(depth: u32, word: &[u8], trip: Trip) -> bool {
     if !put_number(depth as u64) {
         return false;
     }
-    if !io::write_all(STDOUT_FILENO, word) {
+    if !io::write_all(STDOUT, word) {
         return false;
     }
     if !put_number(trip.count as u64) {
         return false;
     }
-    if !io::print_hex(STDOUT_FILENO, trip.patterns, 16) {
+    if !io::print_hex(STDOUT, trip.patterns, 16) {
         return false;
     }
-    io::write_all(STDOUT_FILENO, b"\n")
+    io::write_all(STDOUT, b"\n")
 }
 
 // Both lines of a depth.

@@ -1,0 +1,13 @@
+-- `over` meets its contract: both casts are exact, and so is the quotient.
+-- Assumes nothing.
+use Rattle.std.proofs.Common.{arith}
+use Rattle.float_samples.proofs.Exact.{power_casts, over_exact}
+use Rattle.float_samples.proofs.parts.over.Goals as goal
+
+pub int_to_float-result-2 : goal.int_to_float-result-2
+int_to_float-result-2 c =
+    power_casts _ _ (omega arith) c.power.ensures
+
+pub returns : goal.returns
+returns c =
+    over_exact _ _ _ (omega arith) (omega arith) c.power.ensures

@@ -1,0 +1,13 @@
+-- `bad_order` meets its contract: the first start, or one that has a start before it.
+-- Assumes nothing.
+use borrow.Author.Rules.{rules}
+use Rattle.list_checks.proofs.Records.{order_first, order_later}
+use Rattle.list_checks.proofs.tiles.bad_order.Goals as goal
+
+pub returns-then-k-eq0 : goal.returns-then-k-eq0
+returns-then-k-eq0 c =
+    order_first _ _ c.if-k-eq0.true
+
+pub returns : goal.returns
+returns c =
+    order_later _ _ c.if-k-eq0.false
