@@ -43,7 +43,7 @@ pub fn convert_cells(cells: &[u8], out: &mut [u8]) -> bool
     if cells.len() != out.len() {
         return false;
     }
-    bytes::copy(cells, &mut out[..]);
+    out.copy_from_slice(cells);
     convert_records(&mut out[..]);
     true
 }

@@ -1,6 +1,6 @@
 -- `fingerprint` meets its contract: a list is a plane of one row.
 -- Assumes nothing.
-use Rattle.std.proofs.Common.{◌∙◌, rules}
+use Rattle.std.proofs.Common.{◌∙◌}
 use Rattle.fingerprint.proofs.Rows.{one_row}
 use Rattle.fingerprint.proofs.fingerprint.Goals as goal
 

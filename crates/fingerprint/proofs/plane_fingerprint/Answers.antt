@@ -1,8 +1,7 @@
 -- `plane_fingerprint` meets its contract: y rows are in, and each turn takes the next. The measure is the rows that
 -- are left.
 -- Assumes nothing.
-use Rattle.std.proofs.Common.{◌≡◌, ◌-◌, ◌*◌, take, refl, ◌∙◌, zero-mul, arith, rules}
-use Rattle.fingerprint.specs.Fnv.{basis, with_samples, shown}
+use Rattle.std.proofs.Common.{refl, ◌∙◌, zero-mul, arith}
 use Rattle.fingerprint.proofs.Rows.{rows_more, rows_all}
 use Rattle.fingerprint.proofs.plane_fingerprint.Goals as goal
 

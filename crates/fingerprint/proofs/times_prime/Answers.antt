@@ -4,4 +4,4 @@ use Rattle.fingerprint.proofs.Prime.{by_parts}
 use Rattle.fingerprint.proofs.times_prime.Goals as goal
 
 pub returns : goal.returns
-returns c = ?
+returns c = rw (c.wrapping_add_u64-2.ensures.value, c.wrapping_add_u64.ensures.value) (by_parts _)

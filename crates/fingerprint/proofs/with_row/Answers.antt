@@ -1,8 +1,7 @@
 -- `with_row` meets its contract: x samples of the row are in, and each turn takes the next. The measure is the columns
 -- that are left.
 -- Assumes nothing.
-use Rattle.std.proofs.Common.{◌≡◌, ◌-◌, ◌≤◌, take, refl, ◌∙◌, arith, rules}
-use Rattle.fingerprint.specs.Fnv.{with_samples, row_shown}
+use Rattle.std.proofs.Common.{refl, ◌∙◌, arith}
 use Rattle.fingerprint.proofs.Rows.{row_more, row_all}
 use Rattle.fingerprint.proofs.with_row.Goals as goal
 

@@ -1,6 +1,5 @@
 -- `bad_cell_at` meets its contract: the tests of its fields together.
 -- Assumes nothing.
-use borrow.Author.Rules.{rules}
 use Rattle.list_checks.proofs.Records.{record_tests}
 use Rattle.list_checks.proofs.cells.bad_cell_at.Goals as goal
 

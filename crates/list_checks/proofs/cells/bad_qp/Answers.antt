@@ -1,7 +1,6 @@
 -- `bad_qp` meets its contract: one test tells both.
 -- Assumes nothing.
 use native.Mathlib.Omega.{arith}
-use borrow.Author.Rules.{rules}
 use Rattle.list_checks.proofs.Records.{qp_tests}
 use Rattle.list_checks.proofs.cells.bad_qp.Goals as goal
 

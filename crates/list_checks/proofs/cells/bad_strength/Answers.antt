@@ -2,7 +2,6 @@
 -- Assumes nothing.
 use mathlib.Core.Path.{ap, ◌∙◌}
 use Prim.Native.Nat.{ℕ}
-use borrow.Author.Rules.{rules}
 use lib.Dec.{ltb}
 use Rattle.list_checks.proofs.Records.{strength_tests}
 use Rattle.list_checks.proofs.cells.bad_strength.Goals as goal

@@ -2,14 +2,10 @@
 -- numbers.
 -- Assumes nothing.
 use Prim.Native.Nat.{◌-◌, ◌/◌}
-use mathlib.Core.Path.{◌≡◌, sym, ◌∙◌}
-use native.Mathlib.Omega.{arith}
-use borrow.Author.Rules.{rules}
 use lib.ListN.{length}
-use Rattle.picture.specs.Causes.{cell_rules, cells_cause}
-use Rattle.picture.specs.Ledger.{Cause, place_of}
-use Rattle.list_checks.proofs.Places.{Passed, none_yet, one_more, found, ended}
-use Rattle.list_checks.proofs.Records.{least_byte, records_cause, records_place}
+use Rattle.picture.specs.Causes.{cell_rules}
+use Rattle.list_checks.proofs.Places.{Passed}
+use Rattle.list_checks.proofs.Records.{records_cause}
 use Rattle.list_checks.proofs.cells.first_bad_cell.Given as goal
 
 abbrev pub invariant-loop-n : goal.invariant-loop-n

@@ -1,6 +1,5 @@
 -- `block_bits` meets its contract. The loop's invariant: `bits` are those of the samples passed.
 -- Assumes nothing.
-use Prim.Native.Nat.{◌-◌, ◌≤◌}
 use mathlib.Core.Path.{◌≡◌, ap, ◌∙◌}
 use native.Mathlib.Omega.{arith}
 use Rattle.list_checks.specs.Samples.{bits_of}

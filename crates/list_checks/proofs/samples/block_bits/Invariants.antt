@@ -1,10 +1,8 @@
 -- `block_bits` meets its contract. The loop's invariant: `bits` are those of the samples passed.
 -- Assumes nothing.
 use Prim.Native.Nat.{◌-◌, ◌≤◌}
-use mathlib.Core.Path.{◌≡◌, ap, ◌∙◌}
-use native.Mathlib.Omega.{arith}
+use mathlib.Core.Path.{◌≡◌}
 use Rattle.list_checks.specs.Samples.{bits_of}
-use Rattle.list_checks.proofs.Blocks.{no_bits, bits_more}
 use Rattle.list_checks.proofs.samples.block_bits.Given as goal
 
 abbrev pub invariant-loop-k : goal.invariant-loop-k

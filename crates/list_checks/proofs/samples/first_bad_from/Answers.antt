@@ -1,13 +1,9 @@
 -- `first_bad_from` meets its contract. The loop's invariant: the samples passed are not above the largest.
 -- Assumes nothing.
-use Prim.Native.Nat.{◌-◌}
 use native.Mathlib.Omega.{arith}
-use borrow.Author.Rules.{rules}
 use borrow.Author.Tests.{lt-ltb, le-ltb}
-use lib.ListN.{length}
-use Rattle.list_checks.specs.Samples.{above}
 use Rattle.list_checks.proofs.Blocks.{passed_to}
-use Rattle.list_checks.proofs.Places.{Passed, one_more, found, ended}
+use Rattle.list_checks.proofs.Places.{one_more, found, ended}
 use Rattle.list_checks.proofs.samples.first_bad_from.Goals as goal
 
 pub loop-k-init : goal.loop-k-init

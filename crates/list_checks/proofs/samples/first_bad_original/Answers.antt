@@ -3,7 +3,6 @@
 use Prim.Native.Nat.{◌≤◌}
 use mathlib.Core.Path.{◌≡◌}
 use native.Mathlib.Omega.{arith}
-use borrow.Author.Rules.{rules}
 use Rattle.picture.specs.Causes.{samples_cause}
 use Rattle.picture.specs.Given.{of_planes, planes_of}
 use Rattle.picture.specs.Ledger.{Cause, and_then, place_of}

@@ -1,8 +1,6 @@
 -- `first_bad_sample` meets its contract. The loop's invariant: the samples passed are not above the largest.
 -- Assumes nothing.
-use Prim.Native.Nat.{ℕ, ◌-◌, ◌≤◌, ◌<◌}
 use native.Mathlib.Omega.{arith}
-use lib.ListN.{length, get_or}
 use Rattle.list_checks.proofs.Blocks.{block_more}
 use Rattle.list_checks.proofs.samples.first_bad_sample.Goals as goal
 

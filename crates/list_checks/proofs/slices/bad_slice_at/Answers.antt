@@ -2,7 +2,6 @@
 -- Assumes nothing.
 use Prim.Native.Nat.{◌*◌}
 use mathlib.Core.Path.{◌∙◌}
-use borrow.Author.Rules.{rules}
 use Rattle.list_checks.proofs.Records.{slice_tests, slice_tests_lem}
 use Rattle.checks.proofs.Tests.{any_of_lem}
 use Rattle.list_checks.proofs.slices.bad_slice_at.Goals as goal

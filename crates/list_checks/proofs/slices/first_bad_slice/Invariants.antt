@@ -1,11 +1,9 @@
 -- `first_bad_slice` meets its contract. The loop's invariant: the records passed are good.
 -- Assumes nothing.
 use Prim.Native.Nat.{◌-◌, ◌/◌}
-use mathlib.Core.Path.{sym, ◌∙◌}
-use native.Mathlib.Omega.{arith}
 use lib.ListN.{length}
 use Rattle.picture.specs.Causes.{cause7}
-use Rattle.list_checks.proofs.Places.{Passed, none_yet, one_more, found, ended}
+use Rattle.list_checks.proofs.Places.{Passed}
 use Rattle.list_checks.proofs.slices.first_bad_slice.Given as goal
 
 abbrev pub invariant-loop-n : goal.invariant-loop-n

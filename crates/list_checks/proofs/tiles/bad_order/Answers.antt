@@ -1,6 +1,5 @@
 -- `bad_order` meets its contract: the first start, or one that has a start before it.
 -- Assumes nothing.
-use borrow.Author.Rules.{rules}
 use Rattle.list_checks.proofs.Records.{order_first, order_later}
 use Rattle.list_checks.proofs.tiles.bad_order.Goals as goal
 

@@ -1,11 +1,8 @@
 -- `first_bad_start` meets its contract. The loop's invariant: the starts passed are good.
 -- Assumes nothing.
-use Prim.Native.Nat.{◌-◌}
 use mathlib.Core.Path.{sym, ◌∙◌}
 use native.Mathlib.Omega.{arith}
-use lib.ListN.{length}
-use Rattle.picture.specs.Causes.{starts_cause}
-use Rattle.list_checks.proofs.Places.{Passed, none_yet, one_more, found, ended}
+use Rattle.list_checks.proofs.Places.{none_yet, one_more, found, ended}
 use Rattle.list_checks.proofs.tiles.first_bad_start.Goals as goal
 
 pub loop-k-init : goal.loop-k-init

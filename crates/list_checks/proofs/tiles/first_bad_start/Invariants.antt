@@ -1,11 +1,9 @@
 -- `first_bad_start` meets its contract. The loop's invariant: the starts passed are good.
 -- Assumes nothing.
 use Prim.Native.Nat.{◌-◌}
-use mathlib.Core.Path.{sym, ◌∙◌}
-use native.Mathlib.Omega.{arith}
 use lib.ListN.{length}
 use Rattle.picture.specs.Causes.{starts_cause}
-use Rattle.list_checks.proofs.Places.{Passed, none_yet, one_more, found, ended}
+use Rattle.list_checks.proofs.Places.{Passed}
 use Rattle.list_checks.proofs.tiles.first_bad_start.Given as goal
 
 abbrev pub invariant-loop-k : goal.invariant-loop-k

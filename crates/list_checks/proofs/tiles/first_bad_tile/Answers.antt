@@ -4,7 +4,6 @@ use Prim.Native.Nat.{ℕ, ◌*◌, ◌%◌, ◌^◌, ◌≤◌, ◌<◌}
 use mathlib.Core.Path.{◌≡◌}
 use mathlib.Core.List.{List}
 use native.Mathlib.Omega.{arith}
-use borrow.Author.Rules.{rules}
 use Rattle.ints.proofs.Powers.{power_least, power_most, shifted}
 use Rattle.picture.specs.Causes.{starts_cause}
 use Rattle.picture.specs.Ledger.{Cause, place_of}

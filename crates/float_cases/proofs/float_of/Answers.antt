@@ -3,13 +3,11 @@
 use Prim.Native.Nat.{ℕ, ◌%◌, ◌≤◌, ◌<◌}
 use mathlib.Core.Bool.{Bool, true, false, not, false≢true}
 use mathlib.Core.Path.{◌≡◌, refl, sym, ◌∙◌, subst}
-use borrow.Author.Rules.{rules}
 use borrow.Author.Tests.{le-ltb, lt-ltb}
 use lib.Dec.{T}
 use lib.Ieee.{Float, nan, inf, fin, binary32, div, is_nan, nan_bits, of_bits}
 use lib.Ieee.Bits.{nan_bits_above, nan_bits_is}
-use Rattle.float_cases.proofs.float_of.Statement.{statement}
-use Rattle.float_cases.proofs.float_of.Tie as tie
+use Rattle.float_cases.proofs.float_of.Goals as goal
 
 is-nan : (x : Float) → is_nan x ≡ true → x ≡ nan
 unfolding is_nan
@@ -32,9 +30,8 @@ none : div binary32 (of_bits binary32 0) (of_bits binary32 0) ≡ nan
 unfolding div of_bits
 none = refl
 
-returns : tie.Need-returns
-returns c = none ∙ sym (above c.before.args.bits c.if1.true)
+pub returns-then-bits-gt2139095040 : goal.returns-then-bits-gt2139095040
+returns-then-bits-gt2139095040 c = none ∙ sym (above c.args.bits c.if-bits-gt2139095040.true)
 
-pub float_of_spec : {M : Type 1} → statement M
-float_of_spec =
-    tie.close (tie.spec returns (λ c. not-above c.before.args.bits c.if1.false) (λ c. search rules))
+pub float_from_bits-result : goal.float_from_bits-result
+float_from_bits-result c = not-above c.args.bits c.if-bits-gt2139095040.false
