@@ -1,24 +1,19 @@
 -- A converted list byte by byte.
 use Prim.Native.Nat.{ℕ, ◌+◌, ◌-◌, ◌*◌, ◌/◌, ◌%◌, ◌≤◌, ◌<◌}
-use mathlib.Core.Path.{◌≡◌, sym, ap, ap₂, ◌∙◌}
+use mathlib.Core.Path.{◌≡◌, sym, ap, ◌∙◌}
 use mathlib.Core.Bool.{cond}
-use mathlib.Core.List.{List, ◌++◌, append-nil}
+use mathlib.Core.List.{List, ◌++◌}
 use mathlib.Core.Logic.{◌⊎◌, inl, inr}
 use native.Mathlib.Omega.{arith}
 use borrow.Author.Tests.{lt-ltb, le-ltb}
 use lib.Dec.{ltb}
-use lib.ListN.{length, get_or, take, drop, drop_of_length-le, length-append, length-drop, get_or-append}
-use lib.Seq.{ext_get_or, get_or-append-add, get_or-drop, take-length}
+use lib.ListN.{length, get_or, drop, length-append, length-drop, get_or-append}
+use lib.Seq.{ext_get_or, get_or-append-add, get_or-drop}
 use Rattle.ints.proofs.Laws.{either}
 use Rattle.picture.specs.Cell.{cell_byte}
 use Rattle.picture.specs.Plane.{table}
 use Rattle.picture.proofs.Tables.{get_d_tabulate, length-table}
 use Rattle.conversion.specs.Converted.{converted_byte, converted}
-
--- a list put over another of its length leaves nothing of that
-pub all_taken : (l m : List ℕ) → length l ≡ length m → take (length l) l ++ drop (length l) m ≡ l
-all_taken l m e =
-    ap₂ (λ (a b : List ℕ). a ++ b) (take-length l) (drop_of_length-le m {i = length l} (omega arith)) ∙ append-nil l
 
 -- byte k of a list whose first n records are converted
 abbrev pub byte_after : List ℕ → ℕ → ℕ → ℕ

@@ -4,18 +4,17 @@ use Prim.Native.Nat.{ℕ, zero, suc, ◌+◌, ◌-◌, ◌*◌, ◌^◌, ◌≤�
 use mathlib.Core.Path.{◌≡◌, refl, sym, ap, ◌∙◌}
 use mathlib.Core.List.{List, [], ◌∷◌, ◌++◌}
 use mathlib.Core.Logic.{◌⊎◌, inl, inr}
-use native.Mathlib.Nat.{add-suc}
 use native.Mathlib.Numerals.{add-one}
 use native.Mathlib.Omega.{arith}
 use borrow.Author.Tests.{lt-ltb, le-ltb}
-use lib.ListN.{length, get_or, take, drop, set, length-set}
-use lib.Seq.{take-add, take-suc, take-suc-set, take_all, drop-drop, drop-cons}
+use lib.ListN.{length, get_or, take, drop, set}
+use lib.Seq.{take-add, take-suc-set, take_all, drop-drop, drop-cons}
 use mir.Syntax.{w32}
 use mir.Val.{to_z}
 use mir.ValLaws.{to_z_pos, to_z-neg}
 use Rattle.ints.proofs.Laws.{either, diff_neg}
 use Rattle.picture.specs.Plane.{tabulate}
-use Rattle.picture_record.specs.Numbers.{joined, number_at, half_at, word_at, halves, signed_of}
+use Rattle.picture_record.specs.Numbers.{number_at, half_at, word_at, halves, signed_of}
 
 two_bytes : (l : List ℕ) (n : ℕ) → n + 2 ≤ length l → take 2 (drop n l) ≡ get_or l n 0 ∷ get_or l (n + 1) 0 ∷ []
 two_bytes l n h = simp (add-one, drop-cons l n 0 (omega arith), drop-cons l (suc n) 0 (omega arith))

@@ -1,8 +1,8 @@
 -- The lengths of a record that are within their limits.
 -- Assumes nothing.
 use Prim.Native.Nat.{ℕ, zero, suc, ◌+◌, ◌≤◌, ◌<◌}
-use mathlib.Core.Path.{◌≡◌, refl, ap, ◌∙◌}
-use mathlib.Core.Bool.{true, false, ◌&&◌, and_false}
+use mathlib.Core.Path.{◌≡◌, refl}
+use mathlib.Core.Bool.{true, false, and-false}
 use mathlib.Core.List.{List}
 use mathlib.Core.Logic.{◌⊎◌, inl, inr}
 use native.Mathlib.Numerals.{add-one}
@@ -31,4 +31,4 @@ module _ (head : List ℕ) (k : ℕ) where
       go (inl before) earlier = rw (earlier before) refl
       go (inr after) earlier =
           let here : n ≡ k = omega arith in
-          rw (here, lt-leb (length_in head k) (limit_of k) h, and_false) refl
+          rw (here, lt-leb (length_in head k) (limit_of k) h, and-false) refl

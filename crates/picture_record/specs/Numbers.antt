@@ -1,6 +1,6 @@
 -- The numbers of a stored record, "little endian": of its bytes the low one comes first. oracle/README.md has the
 -- layout.
-use Rattle.std.specs.Prelude.{ℕ, zero, suc, ◌+◌, ◌*◌, ◌^◌, cond, List, [], ◌∷◌, ltb, ℤ, pos, take, drop}
+use Rattle.std.specs.Prelude.{ℕ, ◌+◌, ◌*◌, ◌^◌, cond, List, [], ◌∷◌, ltb, ℤ, pos, take, drop}
 use Rattle.ints.specs.Int.{◌⊖◌}
 use Rattle.picture.specs.Plane.{tabulate}
 

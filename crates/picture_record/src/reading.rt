@@ -1,6 +1,8 @@
 // The lists of a record, from standard input. What is read has no contract: none of io's says what that is.
 use crate::numbers::unpack;
-use libc::STDIN_FILENO;
+
+// Standard input.
+const STDIN: i32 = 0;
 
 // Fills the list by way of the bytes, and answers whether the input had enough.
 fn read_by(bytes: &mut [u8], out: &mut [u16]) -> bool {
@@ -8,7 +10,7 @@ fn read_by(bytes: &mut [u8], out: &mut [u16]) -> bool {
         return false;
     }
     let n = 2 * out.len();
-    let got = io::read_full(STDIN_FILENO, &mut bytes[..n]);
+    let got = io::read_full(STDIN, &mut bytes[..n]);
     unpack(bytes, out);
     got == n
 }
@@ -20,5 +22,5 @@ pub fn read_numbers(out: &mut [u16]) -> bool {
 }
 
 pub fn read_bytes(out: &mut [u8]) -> bool {
-    io::read_full(STDIN_FILENO, out) == out.len()
+    io::read_full(STDIN, out) == out.len()
 }

@@ -38,6 +38,11 @@ module _ (p : Picture) (ok : GivenPlanesOk p) where
 
   -- the luma sample at a pixel, and the chroma samples under it, stand in their planes
   module _ (column row : ℕ) (inside : (column < p.width) × (row < p.height)) where
+    -- width, column and row are small
+    pub small : (p.width ≤ 8192) × (column ≤ 8192) × (row ≤ 8192)
+    small =
+        (ok.width.most, omega (arith, inside.0, ok.width.most), omega (arith, inside.1, ok.height.most))
+
     pub luma_in : {k : ℕ} → k ≡ row * p.width + column → k < length p.originals.y
     luma_in e =
         let within = within_rows p.width p.height row column inside.1 inside.0 in

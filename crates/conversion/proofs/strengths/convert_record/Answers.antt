@@ -2,7 +2,6 @@
 -- Assumes nothing.
 use Prim.Native.Nat.{◌+◌, ◌*◌}
 use native.Mathlib.Omega.{arith}
-use borrow.Author.Rules.{rules}
 use lib.Seq.{lt-length-set}
 use Rattle.conversion.proofs.Records.{written}
 use Rattle.conversion.proofs.strengths.convert_record.Goals as goal

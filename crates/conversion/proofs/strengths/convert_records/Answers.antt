@@ -1,9 +1,9 @@
 -- `convert_records` meets its contract. The loop's invariant: the first n records are converted.
 -- Assumes nothing.
-use Prim.Native.Nat.{◌+◌, ◌-◌, ◌*◌, ◌/◌, ◌≤◌}
+use Prim.Native.Nat.{◌+◌, ◌*◌, ◌≤◌}
 use native.Mathlib.Omega.{arith}
 use lib.ListN.{length}
-use Rattle.conversion.proofs.Records.{Through, none_yet, one_more, all_through}
+use Rattle.conversion.proofs.Records.{none_yet, one_more, all_through}
 use Rattle.conversion.proofs.strengths.convert_records.Goals as goal
 
 pub loop-n-init : goal.loop-n-init

@@ -1,9 +1,8 @@
 -- `convert_records` meets its contract. The loop's invariant: the first n records are converted.
 -- Assumes nothing.
-use Prim.Native.Nat.{◌+◌, ◌-◌, ◌*◌, ◌/◌, ◌≤◌}
-use native.Mathlib.Omega.{arith}
+use Prim.Native.Nat.{◌-◌, ◌/◌, ◌≤◌}
 use lib.ListN.{length}
-use Rattle.conversion.proofs.Records.{Through, none_yet, one_more, all_through}
+use Rattle.conversion.proofs.Records.{Through}
 use Rattle.conversion.proofs.strengths.convert_records.Given as goal
 
 abbrev pub invariant-loop-n : goal.invariant-loop-n

@@ -12,6 +12,6 @@ check_lists-requires c =
     let a = c.args in
     let lent : List Bool = lent_tests (bare a.settings) a.lent in
     let good : AllGood (settings_part (bare a.settings)) =
-        told_good (settings_part (bare a.settings)) (omega arith) c.check_settings-answer.ensures c.in-Accepted.is in
+    told_good (settings_part (bare a.settings)) (omega arith) c.check_settings-answer.ensures c.in-Accepted.is in
     settled a.settings good (planes_of a.y.now a.cb.now a.cr.now) a.cells.now a.slices.now a.columns.now a.rows.now
     lent c.bad_lengths.ensures c.if-bad_lengths.false

@@ -3,7 +3,6 @@
 -- Assumes nothing.
 use mathlib.Core.Path.{refl}
 use mathlib.Core.List.{◌++◌}
-use borrow.Author.Rules.{rules}
 use lib.ListN.{drop}
 use Rattle.picture.specs.Causes.{bad_format, bad_size}
 use Rattle.picture.specs.Given.{bare, settings_of}

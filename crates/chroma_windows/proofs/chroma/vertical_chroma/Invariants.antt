@@ -1,0 +1,20 @@
+-- `vertical_chroma` meets its contract. The loop's invariant: the first j lines are filtered, and the others are as
+-- they were.
+-- Assumes nothing.
+use Prim.Native.Nat.{ℕ, ◌+◌, ◌-◌, ◌*◌, ◌≤◌, ◌<◌}
+use mathlib.Core.Path.{◌≡◌}
+use native.Mathlib.Omega.{arith}
+use lib.ListN.{length}
+use Rattle.filter.specs.Answer.{chroma_of}
+use Rattle.filter.specs.Kernel.{kernel}
+use Rattle.picture.proofs.Index.{row_le}
+use Rattle.planes.specs.Window.{Filtered}
+use Rattle.planes.proofs.Windows.{filtered_none}
+use Rattle.chroma_windows.proofs.Pairs.{chroma_more}
+use Rattle.chroma_windows.proofs.chroma.vertical_chroma.Given as goal
+
+abbrev pub invariant-loop-j : goal.invariant-loop-j
+invariant-loop-j l = (l.j ≤ 4) × Filtered l.j (kernel (chroma_of l.t)) l.base 1 l.along l.initial.s l.s
+
+abbrev pub decreases-loop-j : goal.decreases-loop-j
+decreases-loop-j l = 4 - l.j

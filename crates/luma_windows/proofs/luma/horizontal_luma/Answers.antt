@@ -1,0 +1,16 @@
+-- `horizontal_luma` meets its contract: the decision is the window's, the enum loses nothing of it, and its counts come
+-- with it.
+-- Assumes nothing.
+use borrow.Author.Rules.{rules}
+use Rattle.luma_windows.proofs.Decided.{window_answered}
+use Rattle.luma_windows.proofs.luma.horizontal_luma.Goals as goal
+
+pub returns-clause-filtered : goal.returns-clause-filtered
+returns-clause-filtered c =
+    (window_answered _ _ _ _ c.decide-d.ensures c.filter_rows.ensures
+    (c.with_counts.ensures.decision, c.with_counts.ensures.counts)).0
+
+pub returns-clause-value : goal.returns-clause-value
+returns-clause-value c =
+    (window_answered _ _ _ _ c.decide-d.ensures c.filter_rows.ensures
+    (c.with_counts.ensures.decision, c.with_counts.ensures.counts)).1
