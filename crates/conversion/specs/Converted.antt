@@ -16,7 +16,9 @@ converted_byte byte b = cond (edgeless_byte byte b) 0 (byte b)
 
 -- the whole records, one after another, then what is left: a partial last record, or nothing
 unfoldable pub converted : List ℕ → List ℕ
-converted cells = table 8 (records cells) (λ b n. converted_byte (cell_byte cells n) b) ++ drop (8 * records cells) cells
+converted cells =
+    table 8 (records cells) (λ b n. converted_byte (cell_byte cells n) b)
+    ++ drop (8 * records cells) cells
   where
     records : List ℕ → ℕ
     records l = length l / 8

@@ -1,6 +1,9 @@
 -- The samples of a plane, taken one by one and row by row.
 -- Assumes nothing.
-use Rattle.std.proofs.Common.{◌≡◌, ℕ, ◌+◌, ◌*◌, ◌<◌, ◌≤◌, Bool, true, false, cond, ◌&&◌, ltb, List, [], ◌∷◌, ◌++◌, length, take, drop, sym, refl, ap, ◌∙◌, le_trans, mul-le-mul_right, mul_comm, add-mul, mul-one, arith, length-take, take_all, drop-cons, take-take, drop-drop, take-add, lt-ltb, eq-eqb, eqb-true}
+use Rattle.std.proofs.Common.{◌≡◌, ℕ, ◌+◌, ◌*◌, ◌<◌, ◌≤◌, Bool, true, false, cond, ◌&&◌, ltb, List, [], ◌∷◌, ◌++◌}
+use Rattle.std.proofs.Common.{length, take, drop, sym, refl, ap, ◌∙◌, le_trans, mul-le-mul_right, mul_comm, add-mul}
+use Rattle.std.proofs.Common.{mul-one, arith, length-take, take_all, drop-cons, take-take, drop-drop, take-add}
+use Rattle.std.proofs.Common.{lt-ltb, eq-eqb, eqb-true}
 use lib.Seq.{drop-nil}
 use Rattle.picture.specs.Plane.{at}
 use Rattle.plane_view.proofs.Places.{place_of}

@@ -1,4 +1,5 @@
 -- `with_parts` meets its contract. The loop's invariant: the parts of the first x samples are in, modulo 2^32.
+-- Assumes nothing.
 use Rattle.std.proofs.Common.{◌^◌, sym, add-zero, mod-eq_of_lt, arith}
 use Rattle.checksum.proofs.Rows.{no_parts, parts_more}
 use Rattle.checksum.proofs.plane.with_parts.Goals as goal

@@ -1,4 +1,5 @@
 -- `picture_checksums` meets its contract: a refusal is the answer; else the sums are those of the planes.
+-- Assumes nothing.
 use Rattle.std.proofs.Common.{◌≡◌, sym, ◌∙◌, mul_comm, arith}
 use Rattle.picture.specs.Accepted.{GivenPlanesOk}
 use Rattle.picture.specs.Causes.{planes_ledger}

@@ -1,4 +1,6 @@
--- What `check_lists` requires: no cause of 1 to 6 applies there.
+-- `check` meets its contract: a refusal by the settings is the answer; else the lengths are tried, and then the lists.
+-- Rattle finds that; what `check_lists` requires is shown here, since no cause of 1 to 6 applies there.
+-- Assumes nothing.
 use Rattle.std.proofs.Common.{List, Bool, arith}
 use Rattle.picture.specs.Given.{bare, planes_of}
 use Rattle.picture.proofs.Ledger.{AllGood}

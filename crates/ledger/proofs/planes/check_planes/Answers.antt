@@ -1,5 +1,6 @@
--- `check_planes` meets its contract: a refusal for size or format is the answer. Rattle finds the rest: a cause that
--- applies gives the answer, and one that does not leaves it to the next.
+-- `check_planes` meets its contract: a refusal for size or format is the answer; else a cause that applies gives it,
+-- and one that does not leaves it to the next, as Rattle finds.
+-- Assumes nothing.
 use Rattle.std.proofs.Common.{drop}
 use Rattle.picture.specs.Causes.{planes_ledger}
 use Rattle.picture.specs.Given.{of_planes, planes_of}

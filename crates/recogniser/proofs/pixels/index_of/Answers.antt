@@ -1,7 +1,6 @@
 -- `index_of` meets its contract: product and sum fit.
 -- Assumes nothing.
 use native.Mathlib.Omega.{arith}
-use borrow.Author.Rules.{rules}
 use Rattle.checks.proofs.Areas.{area_fits, area_most}
 use Rattle.recogniser.proofs.pixels.index_of.Goals as goal
 

@@ -5,7 +5,6 @@ use native.Mathlib.Omega.{arith}
 use Rattle.picture.specs.Causes.{planes_ledger}
 use Rattle.picture.specs.Given.{of_planes, planes_of}
 use Rattle.picture.specs.Ledger.{first_of}
-use Rattle.picture.specs.Picture.{Picture}
 use Rattle.picture.proofs.Accepted.{planes_by}
 use Rattle.ledger.specs.Numbered.{numbered}
 use Rattle.ledger.proofs.Answers.{LeftTo, all_left, answers, goes_on, refused_by, stops, told_past}
@@ -14,27 +13,23 @@ use Rattle.recogniser.specs.declared.Pixel.TheVariants.{Outside, Refused}
 use Rattle.recogniser.specs.Pixel.{cause14, outside, pixel_ledger}
 use Rattle.recogniser.proofs.Answers.{with_parts, without_parts}
 use Rattle.recogniser.proofs.pixels.pixel_at.Goals as goal
-use Rattle.recogniser.proofs.pixels.pixel_at.Goals.{After-check_planes-verdict, In-Accepted}
-
--- the picture that the arguments make
-abbrev picture : After-check_planes-verdict → Picture
-picture c = let a = c.args in of_planes a.settings (planes_of a.y.now a.cb.now a.cr.now)
+use Rattle.recogniser.proofs.pixels.pixel_at.Goals.{In-Accepted}
 
 -- what is answered is left to cause 14
 rest : (c : In-Accepted) →
-    let p = picture c.After-check_planes-verdict in
     let a = c.args in
+    let p = of_planes a.settings (planes_of a.y.now a.cb.now a.cr.now) in
     LeftTo (first_of (pixel_ledger p a.column a.row)) (cause14 p a.column a.row)
 rest c =
-    let p = picture c.After-check_planes-verdict in
     let a = c.args in
+    let p = of_planes a.settings (planes_of a.y.now a.cb.now a.cr.now) in
     told_past (planes_ledger p) (cause14 p a.column a.row) (omega arith) c.check_planes-verdict.ensures c.in-Accepted.is
     (all_left (pixel_ledger p a.column a.row))
 
 pub returns-in_default : goal.returns-in_default
 returns-in_default c =
-    let p = picture (goal.at.returns-in_default c).After-check_planes-verdict in
     let a = c.args in
+    let p = of_planes a.settings (planes_of a.y.now a.cb.now a.cr.now) in
     let v = c.check_planes-verdict.result in
     let some = refuses v c.in_default.not-Accepted in
     without_parts p a.column a.row (Refused v)
@@ -44,8 +39,8 @@ returns-in_default c =
 pub returns-then-is_outside : goal.returns-then-is_outside
 returns-then-is_outside c =
     let d = (goal.at.returns-then-is_outside c).In-Accepted in
-    let p = picture d.After-check_planes-verdict in
     let a = c.args in
+    let p = of_planes a.settings (planes_of a.y.now a.cb.now a.cr.now) in
     without_parts p a.column a.row Outside
     (stops (outside p a.column a.row) c.is_outside.ensures (rest d) c.if-is_outside.true)
     (omega arith) tt
@@ -58,7 +53,7 @@ pixel_inside-requires-clause-given_planes_ok c =
 pub returns : goal.returns
 returns c =
     let d = (goal.at.returns c).In-Accepted in
-    let p = picture d.After-check_planes-verdict in
     let a = c.args in
+    let p = of_planes a.settings (planes_of a.y.now a.cb.now a.cr.now) in
     let left = goes_on (outside p a.column a.row) c.is_outside.ensures (rest d) c.if-is_outside.false in
     with_parts p a.column a.row c.pixel_inside.result (answers left refl) c.pixel_inside.ensures

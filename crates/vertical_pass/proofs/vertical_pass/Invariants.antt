@@ -1,0 +1,23 @@
+-- `vertical_pass` meets its contract. The loop's invariant: the rows before r are done, and r is where a band ends.
+-- Assumes nothing.
+use Prim.Native.Nat.{◌+◌, ◌-◌, ◌*◌, ◌%◌, ◌≤◌, ◌<◌}
+use mathlib.Core.Path.{◌≡◌, refl}
+use native.Mathlib.Omega.{arith}
+use lib.ListN.{length}
+use Rattle.filter.specs.Bands.{ctb_bands, ctb_band_end}
+use Rattle.filter.specs.Kernel.{kernel}
+use Rattle.filter.specs.Segment.{vertical}
+use Rattle.filter.proofs.AllBands.{Through, ctb_start, ctb_next}
+use Rattle.picture.specs.Plane.{Plane, at}
+use Rattle.picture.proofs.Index.{row_le, rows_between}
+use Rattle.planes.proofs.Bands.{DoneTo, plane_none, plane_all, plane_more, vertical_local}
+use Rattle.strips.specs.Passed.{pass_for}
+use Rattle.vertical_pass.proofs.vertical_pass.Given as goal
+
+abbrev pub invariant-loop-r : goal.invariant-loop-r
+invariant-loop-r l = (l.r % 4 ≡ 0) × (l.r ≤ l.f.rows) × (length l.s ≡ length l.initial.s)
+    × DoneTo l.f.columns l.f.rows (pass_for vertical l.k l.f l.cells l.slices l.starts) (at l.initial.s l.f.columns) l.r l.s
+    × Through (ctb_bands l.f.rows l.f.band) (ctb_band_end l.f.rows l.f.band) l.f.rows l.r
+
+abbrev pub decreases-loop-r : goal.decreases-loop-r
+decreases-loop-r l = l.f.rows - l.r
