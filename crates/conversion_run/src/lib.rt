@@ -1,5 +1,5 @@
-// Cell lists from standard input, converted to standard output. What goes through io has no contract: none of io's
-// says what was read or written.
+// Cell lists from a reader, converted to a writer; what goes wrong is said to a third stream. What is read and written
+// has no contract.
 #![tactic(auto)]
 
 mod parts;

@@ -2,6 +2,6 @@
 // without an edge is 0.
 #![tactic(auto)]
 
-fn main() {
-    conversion_run::convert_input(u64::MAX);
+fn main(rt: HostRuntime) {
+    conversion_run::convert_input(&mut rt.stdin(), &mut rt.stdout(), &mut rt.stderr(), u64::MAX);
 }

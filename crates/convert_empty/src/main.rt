@@ -1,6 +1,6 @@
 // convert_cells on empty input, which prints nothing.
 #![tactic(auto)]
 
-fn main() {
-    conversion_run::convert_input(u64::MAX);
+fn main(rt: HostRuntime) {
+    conversion_run::convert_input(&mut rt.stdin(), &mut rt.stdout(), &mut rt.stderr(), u64::MAX);
 }

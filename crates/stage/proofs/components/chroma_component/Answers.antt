@@ -5,25 +5,17 @@ use mathlib.Core.Path.{ap}
 use mathlib.Core.Bool.{false}
 use borrow.Author.Rules.{rules}
 use Rattle.filter.specs.declared.Component.{Component}
-use Rattle.stage.proofs.components.chroma_component.Statement.{statement}
-use Rattle.stage.proofs.components.chroma_component.Tie as tie
+use Rattle.stage.proofs.components.chroma_component.Goals as goal
 
-returns : tie.Need-returns
+pub returns : goal.returns
 returns c =
-    let s = c.before.args.settings in
+    let s = c.args.settings in
     let with-largest : ℕ → Component =
     λ n. record {
       luma = false;
       format = s.chroma_format;
       depth = s.chroma_depth;
-      offset = c.before.args.offset;
+      offset = c.args.offset;
       largest = n;
     } in
-    ap with-largest c.largest-at.ensures
-
-pub chroma_component_spec : {M : Type 1} → statement M
-chroma_component_spec =
-    tie.close
-    (tie.spec
-    (λ c κs. search rules)
-    returns)
+    ap with-largest c.largest_at.ensures

@@ -5,12 +5,11 @@ use mathlib.Core.Path.{ap}
 use mathlib.Core.Bool.{true}
 use borrow.Author.Rules.{rules}
 use Rattle.filter.specs.declared.Component.{Component}
-use Rattle.stage.proofs.components.luma_component.Statement.{statement}
-use Rattle.stage.proofs.components.luma_component.Tie as tie
+use Rattle.stage.proofs.components.luma_component.Goals as goal
 
-returns : tie.Need-returns
+pub returns : goal.returns
 returns c =
-    let s = c.before.args.settings in
+    let s = c.args.settings in
     let with-largest : ℕ → Component =
     λ n. record {
       luma = true;
@@ -19,11 +18,4 @@ returns c =
       offset = 12;
       largest = n;
     } in
-    ap with-largest c.largest-at.ensures
-
-pub luma_component_spec : {M : Type 1} → statement M
-luma_component_spec =
-    tie.close
-    (tie.spec
-    (λ c κs. search rules)
-    returns)
+    ap with-largest c.largest_at.ensures
