@@ -3,5 +3,10 @@
 #![tactic(auto)]
 
 fn main(rt: HostRuntime) {
-    conversion_run::convert_input(&mut rt.stdin(), &mut rt.stdout(), &mut rt.stderr(), u64::MAX);
+    conversion_run::convert_input(
+        &mut rt.stdin(),
+        &mut rt.stdout(),
+        &mut rt.stderr(),
+        u64::MAX,
+    );
 }

@@ -6,7 +6,7 @@ use native.Mathlib.Omega.{arith}
 use Rattle.picture.specs.Accepted.{PictureOk}
 use Rattle.picture.specs.Cell.{cell_byte, cell_at, cell_number, cell_of_sample}
 use Rattle.picture.specs.Cut.{IsTile, cell_part, cut}
-use Rattle.picture.specs.Picture.{Picture, Planes}
+use Rattle.picture.specs.Picture.{Picture}
 use Rattle.picture.specs.Plane.{at}
 use Rattle.picture.specs.Scale.{cell_of}
 use Rattle.picture.specs.Tile.{tile_left, tile_top, tile_width, tile_height}

@@ -12,7 +12,7 @@ use Rattle.filter.specs.Segment.{vertical, horizontal, Position, segment_at}
 use Rattle.picture.specs.Accepted.{PictureOk}
 use Rattle.picture.specs.Cell.{suppressed, cell_of_sample}
 use Rattle.picture.specs.Cut.{IsTile, tile_part, cut}
-use Rattle.picture.specs.Picture.{Picture, Planes, plane_of, plane_width, plane_height, original}
+use Rattle.picture.specs.Picture.{Picture, plane_of, plane_width, plane_height, original}
 use Rattle.picture.specs.Plane.{Plane, Part, at, transposed}
 use Rattle.picture.specs.Scale.{Component, Sampling, sampling_across, sampling_down, from_luma, to_luma}
 use Rattle.picture.specs.Tile.{tile_left, tile_top, tile_width, tile_height}

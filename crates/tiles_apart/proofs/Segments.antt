@@ -12,7 +12,7 @@ use Rattle.picture.specs.declared.Cell.{Cell}
 use Rattle.picture.specs.Accepted.{PictureOk}
 use Rattle.picture.specs.Cell.{cell_of_sample}
 use Rattle.picture.specs.Cut.{IsTile, cut}
-use Rattle.picture.specs.Picture.{Picture, Planes, Settings}
+use Rattle.picture.specs.Picture.{Picture, Settings}
 use Rattle.picture.specs.Scale.{Component}
 use Rattle.picture.specs.Tile.{tile_column, tile_row, same_tile, tile_left, tile_top, tile_width, tile_height}
 use Rattle.tiles_apart.proofs.Cells.{cell_moves}

@@ -1,7 +1,6 @@
 -- `line_of_record` meets its contract: each field is what its `sample` ensures.
 -- Assumes nothing.
 use Rattle.bench_record.specs.Record.{line_of_record}
-use borrow.Author.Rules.{rules}
 use Rattle.bench_record.proofs.fields.line_of_record.Goals as goal
 
 pub returns : goal.returns

@@ -1,7 +1,6 @@
 -- `sample` meets its contract: the bytes that it read, joined.
 -- Assumes nothing.
 use Rattle.bench_record.specs.Record.{sample_at}
-use borrow.Author.Rules.{rules}
 use Rattle.bench_record.proofs.fields.sample.Goals as goal
 
 pub returns : goal.returns

@@ -2,7 +2,6 @@
 -- Assumes nothing.
 use mathlib.Core.Path.{ap₂}
 use mathlib.Core.Bool.{◌||◌}
-use borrow.Author.Rules.{rules}
 use Rattle.bench_record.specs.Refusal.{line_above}
 use Rattle.bench_record.proofs.refusal.line_above.Goals as goal
 

@@ -1,7 +1,6 @@
 -- `others_bad` meets its contract: its own tests and the flags of its two calls, in the definition's order.
 -- Assumes nothing.
 use mathlib.Core.Path.{refl}
-use borrow.Author.Rules.{rules}
 use Rattle.bench_record.specs.Refusal.{others_bad}
 use Rattle.bench_record.proofs.refusal.others_bad.Goals as goal
 

@@ -3,7 +3,6 @@
 use Prim.Native.Nat.{ℕ, ◌≤◌}
 use mathlib.Core.Path.{◌≡◌, sym, ◌∙◌}
 use mathlib.Core.List.{List}
-use borrow.Author.Rules.{rules}
 use Rattle.bench_record.specs.declared.fields.Head.{Head}
 use Rattle.bench_record.specs.Refusal.{refusal_of}
 use Rattle.bench_record.proofs.Refused.{after_depth, after_offsets, after_others}
@@ -64,7 +63,8 @@ returns-then-depth_bad c =
 
 pub returns-then-offsets_bad : goal.returns-then-offsets_bad
 returns-then-offsets_bad c =
-    applies 7 _ (depth-passed (goal.at.returns-then-offsets_bad c).Else-depth_bad) c.offsets_bad.ensures c.if-offsets_bad.true
+    let passed = depth-passed (goal.at.returns-then-offsets_bad c).Else-depth_bad in
+    applies 7 _ passed c.offsets_bad.ensures c.if-offsets_bad.true
 
 pub others_bad-requires : goal.others_bad-requires
 others_bad-requires c =
@@ -72,7 +72,8 @@ others_bad-requires c =
 
 pub returns-then-others_bad : goal.returns-then-others_bad
 returns-then-others_bad c =
-    applies 9 _ (offsets-passed (goal.at.returns-then-others_bad c).Else-offsets_bad) c.others_bad.ensures c.if-others_bad.true
+    let passed = offsets-passed (goal.at.returns-then-others_bad c).Else-offsets_bad in
+    applies 9 _ passed c.others_bad.ensures c.if-others_bad.true
 
 pub largest_at-requires : goal.largest_at-requires
 largest_at-requires c =

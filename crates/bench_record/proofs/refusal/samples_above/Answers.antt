@@ -3,7 +3,6 @@
 use Prim.Native.Nat.{ℕ}
 use mathlib.Core.Path.{◌≡◌, ◌∙◌, ap, ap₂}
 use mathlib.Core.Bool.{Bool, ◌||◌}
-use borrow.Author.Rules.{rules}
 use Rattle.lines.specs.declared.Line.{Line}
 use Rattle.bench_record.specs.Refusal.{line_above, samples_above}
 use Rattle.bench_record.proofs.refusal.samples_above.Goals as goal
