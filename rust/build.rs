@@ -38,22 +38,23 @@ fn last_lines(bytes: &[u8], count: usize) -> String {
     lines[lines.len().saturating_sub(count)..].join("\n")
 }
 
-/// Runs `rt staticlib tinladle`, which proves the library unless nothing changed since it last did.
+/// Runs `rt lib` in the library's crate, which proves it unless nothing changed since it last did.
 fn make(root: &Path) -> PathBuf {
-    let run = Command::new("rt").args(["staticlib", "tinladle"]).current_dir(root).output();
+    let crate_folder = root.join("crates/tinladle");
+    let run = Command::new("rt").arg("lib").current_dir(&crate_folder).output();
     match run {
-        Ok(done) if done.status.success() => root.join("target/staticlib").join(LIBRARY),
+        Ok(done) if done.status.success() => crate_folder.join("out").join(LIBRARY),
         Ok(done) => stop(&format!(
-            "`rt staticlib tinladle` failed ({}). Its last lines:\n{}\n{}",
+            "`rt lib` in crates/tinladle failed ({}). Its last lines:\n{}\n{}",
             done.status,
             last_lines(&done.stdout, 20),
             last_lines(&done.stderr, 20)
         )),
         Err(error) if error.kind() == ErrorKind::NotFound => stop(&format!(
             "the command `rt` is missing. Put the Rattle kit's `rt` on the PATH, or set TINLADLE_LIB_DIR to a folder \
-             that holds {LIBRARY} as `rt staticlib tinladle` writes it (target/staticlib)"
+             that holds {LIBRARY} as `rt lib` writes it (crates/tinladle/out)"
         )),
-        Err(error) => stop(&format!("`rt staticlib tinladle` could not be started: {error}")),
+        Err(error) => stop(&format!("`rt lib` in crates/tinladle could not be started: {error}")),
     }
 }
 
@@ -67,6 +68,20 @@ fn given(folder: &str) -> PathBuf {
     library
 }
 
+/// What the library is made of, without the folders out/ that `rt` writes beside it.
+fn watch(root: &Path) {
+    println!("cargo::rerun-if-changed={}", root.join("crates.txt").display());
+    let crates = fs::read_dir(root.join("crates")).unwrap_or_else(|error| stop(&format!("cannot read crates/: {error}")));
+    for one in crates.flatten() {
+        for part in ["src", "specs", "proofs"] {
+            let folder = one.path().join(part);
+            if folder.is_dir() {
+                println!("cargo::rerun-if-changed={}", folder.display());
+            }
+        }
+    }
+}
+
 fn main() {
     println!("cargo::rerun-if-env-changed=TINLADLE_LIB_DIR");
     println!("cargo::rerun-if-changed=build.rs");
@@ -77,12 +92,11 @@ fn main() {
         Ok(folder) if !folder.is_empty() => given(&folder),
         _ => {
             let root = root();
-            println!("cargo::rerun-if-changed={}", root.join("crates").display());
-            println!("cargo::rerun-if-changed={}", root.join("crates.txt").display());
+            watch(&root);
             make(&root)
         }
     };
-    // A copy of our own: `rt ci` removes target/ at the repository's root, and cargo must still be able to link.
+    // A copy of our own: a folder out/ may be removed, and cargo must still be able to link.
     let out = PathBuf::from(variable("OUT_DIR"));
     if let Err(error) = fs::copy(&library, out.join(LIBRARY)) {
         stop(&format!("cannot copy {}: {error}", library.display()));

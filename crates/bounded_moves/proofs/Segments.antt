@@ -130,7 +130,7 @@ largest_of (chroma tc largest) = largest
 -- sample i of line j, from what is known of the line
 in_line : (most : ℕ) (W after : Plane) (j : ℕ) → MovedAtMost (λ _. most) (line_of W j) (line_of after j)
     → (i : ℕ) → i < 8 → distance (W i j) (after i j) ≤ most
-in_line most W after j m =
+in_line most W _ j m =
     cases8 _ (m.p_most 3) (m.p_most 2) (m.p_most 1) (m.p_most 0)
     (m.q_most 0) (m.q_most 1) (m.q_most 2) (m.q_most 3)
 

@@ -1,7 +1,7 @@
 -- Each bound of a segment is met, at every depth from 8 on and every tC.
 use Prim.Native.Nat.{ℕ, zero, suc, ◌+◌, ◌*◌, ◌-◌, ◌/◌, ◌%◌, ◌^◌, ◌≤◌, ◌<◌, min}
 use mathlib.Core.Path.{◌≡◌, sym, ◌∙◌, ap}
-use mathlib.Core.Bool.{true, false, and_false}
+use mathlib.Core.Bool.{true, false, and-false}
 use native.Mathlib.Omega.{arith}
 use lib.Dec.{eqb, ltb}
 use lib.IntN.{ℤ, pos}
@@ -49,7 +49,7 @@ module _ (β tc : ℕ) (hβ : 8 ≤ β) (ht : 1 ≤ tc) where
   too_far : (dpq : ℕ) → d_sam β tc dpq (line_of (stepped tc) 0) ≡ false
   too_far dpq =
       dsam_is β tc dpq (line_of (stepped tc) 0)
-      ∙ simp (le-ltb (distance 0 (4 * tc)) ((5 * tc + 1) / 2) (omega arith), and_false)
+      ∙ simp (le-ltb (distance 0 (4 * tc)) ((5 * tc + 1) / 2) (omega arith), and-false)
 
   step_weak : decided β tc (stepped tc) ≡ record { d_e = 1; d_ep = true; d_eq = true }
   unfolding decision

@@ -1,6 +1,5 @@
 -- `bench_text` meets its contract: the buffer is lent on whole.
 -- Assumes nothing.
-use borrow.Author.Rules.{rules}
 use Rattle.bench.proofs.bench_text.Goals as goal
 
 pub returns : goal.returns

@@ -1,8 +1,6 @@
 -- `put_record` meets its contract: the test says whether the record is refused.
 -- Assumes nothing.
-use native.Mathlib.Omega.{arith}
 use Rattle.bench.proofs.Facts.{text_accepted, text_refused}
-use borrow.Author.Rules.{rules}
 use Rattle.bench.proofs.put_record.Goals as goal
 
 pub returns-then-n-eq0-clause-puts : goal.returns-then-n-eq0-clause-puts

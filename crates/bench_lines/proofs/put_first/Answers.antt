@@ -1,9 +1,7 @@
 -- `put_first` meets its contract: the word, and then tc and both counts.
 -- Assumes nothing.
-use native.Mathlib.Omega.{arith}
 use Rattle.text.proofs.Append.{appended_then}
 use Rattle.bench_lines.specs.Lines.{first_text}
-use borrow.Author.Rules.{rules}
 use Rattle.bench_lines.proofs.put_first.Goals as goal
 
 pub returns-clause-puts : goal.returns-clause-puts

@@ -1,8 +1,6 @@
 -- `put_four` meets its contract: the texts of its four calls, one after another.
 -- Assumes nothing.
 use mathlib.Core.List.{append_assoc}
-use native.Mathlib.Omega.{arith}
-use borrow.Author.Rules.{rules}
 use Rattle.text.proofs.Append.{appended_then}
 use Rattle.bench_lines.specs.Lines.{four_text}
 use Rattle.bench_lines.proofs.put_four.Goals as goal

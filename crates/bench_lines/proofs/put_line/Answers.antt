@@ -1,9 +1,7 @@
 -- `put_line` meets its contract: the P side, and then the Q side.
 -- Assumes nothing.
-use native.Mathlib.Omega.{arith}
 use Rattle.text.proofs.Append.{appended_then}
 use Rattle.bench_lines.specs.Lines.{line_text}
-use borrow.Author.Rules.{rules}
 use Rattle.bench_lines.proofs.put_line.Goals as goal
 
 pub returns-clause-puts : goal.returns-clause-puts

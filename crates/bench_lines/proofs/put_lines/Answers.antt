@@ -1,9 +1,7 @@
 -- `put_lines` meets its contract: the texts of its four calls, one after another.
 -- Assumes nothing.
-use native.Mathlib.Omega.{arith}
 use Rattle.text.proofs.Append.{appended_then}
 use Rattle.bench_lines.specs.Lines.{lines_text}
-use borrow.Author.Rules.{rules}
 use Rattle.bench_lines.proofs.put_lines.Goals as goal
 
 pub returns-clause-puts : goal.returns-clause-puts

@@ -1,8 +1,6 @@
 -- `put_numbers` meets its contract: the texts of its three calls, one after another.
 -- Assumes nothing.
 use mathlib.Core.List.{append_assoc}
-use native.Mathlib.Omega.{arith}
-use borrow.Author.Rules.{rules}
 use Rattle.text.proofs.Append.{appended_then}
 use Rattle.bench_lines.specs.Lines.{numbers_text}
 use Rattle.bench_lines.proofs.put_numbers.Goals as goal

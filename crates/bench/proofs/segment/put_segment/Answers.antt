@@ -4,7 +4,6 @@ use native.Mathlib.Omega.{arith}
 use Rattle.text.proofs.Append.{appended_then}
 use Rattle.bench_record.proofs.Refused.{accepted}
 use Rattle.bench.proofs.Facts.{segment_made}
-use borrow.Author.Rules.{rules}
 use Rattle.bench.proofs.segment.put_segment.Goals as goal
 
 pub thresholds_of-t-requires : goal.thresholds_of-t-requires
@@ -18,7 +17,7 @@ put_first-next-requires c =
 pub put_lines-requires : goal.put_lines-requires
 put_lines-requires c =
     let put = c.put_first-next.ensures in
-    omega (arith, put.0.len, put.1, c.requires.in_bounds)
+    omega (arith, put.puts.len, put.upper_bound, c.requires.in_bounds)
 
 pub returns-clause-puts : goal.returns-clause-puts
 returns-clause-puts c =

@@ -2,7 +2,6 @@
 -- Assumes nothing.
 use borrow.Author.Tests.{eq-eqb, ne_eqb}
 use Rattle.bench.specs.Code.{tc_or_zero}
-use borrow.Author.Rules.{rules}
 use Rattle.bench.proofs.segment.tc_of.Goals as goal
 
 pub returns-then-bs-eq0 : goal.returns-then-bs-eq0

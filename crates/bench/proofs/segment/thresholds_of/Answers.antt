@@ -2,7 +2,6 @@
 -- the record is in range of the table.
 -- Assumes nothing.
 use native.Mathlib.Omega.{arith}
-use borrow.Author.Rules.{rules}
 use Rattle.thresholds.proofs.LumaTable.{average_listed}
 use Rattle.bench.proofs.Facts.{thresholds_made}
 use Rattle.bench.proofs.segment.thresholds_of.Goals as goal

@@ -7,20 +7,14 @@ use Rattle.checks.specs.Lengths.{plane_tests}
 use Rattle.checks.proofs.Tests.{any_both, one_test}
 use Rattle.picture.specs.Causes.{bad_cells}
 use Rattle.picture.specs.Given.{bare}
-use Rattle.tile_check.proofs.driver.bad_scratch.Statement.{statement}
-use Rattle.tile_check.proofs.driver.bad_scratch.Tie as tie
+use Rattle.tile_check.proofs.driver.bad_scratch.Goals as goal
 
-returns : tie.Need-returns
+pub returns : goal.returns
 returns c =
-    let originals = c.before.before in
-    let a = originals.before.args in
+    let a = c.args in
     let q = bare a.own in
     let first = plane_tests q a.y a.cb a.cr in
     let second = plane_tests q a.outy a.outcb a.outcr in
     any_both (first ++ second) (bad_cells q a.cells ∷ [])
-    (any_both first second originals.bad-planes.ensures c.before.bad-planes2.ensures)
-    (c.bad-cell-bytes.ensures ∙ one_test _)
-
-pub bad_scratch_spec : {M : Type 1} → statement M
-bad_scratch_spec =
-    tie.close (tie.spec (λ c κs. search rules) (λ c κs. search rules) (λ c κs. search rules) returns)
+    (any_both first second c.bad_planes.ensures c.bad_planes-2.ensures)
+    (c.bad_cell_bytes.ensures ∙ one_test _)
