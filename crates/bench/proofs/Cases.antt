@@ -82,8 +82,8 @@ pub prints :
 unfolding bench_text record_text refusal_of others_bad samples_above line_above side_above sample_at line_of_record
     segment_text first_text numbers_text word_text printed_tc record_tc record_beta record_qp record_decision
     lines_text line_text four_text decimal decimal_in
-    average_qp beta_index tc_index scaled luma_beta luma_tc BETA TC activity d_sam decision side_count luma_line strong_line near
-    clip1 delta0 side_delta second weak_by weak_line
+    average_qp beta_index tc_index scaled luma_beta luma_tc BETA TC activity d_sam decision side_count luma_line
+    strong_line near clip1 delta0 side_delta second weak_by weak_line
     ◌⊖◌ ◌⊞◌ ◌⊟◌ neg ◌⊠◌ lt ◌>>◌ clip3 abs nat_of
 prints = (refl, refl, refl, refl)
 

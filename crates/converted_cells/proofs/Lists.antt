@@ -1,7 +1,7 @@
 -- What the conversion makes of a list: record by record, and part by part.
 use Prim.Native.Nat.{ℕ, ◌+◌, ◌-◌, ◌*◌, ◌/◌, ◌%◌, ◌≤◌, ◌<◌}
 use mathlib.Core.Path.{◌≡◌, refl, sym, ap, ap₂, ◌∙◌}
-use mathlib.Core.Bool.{Bool, true, false, cond, not, ◌&&◌, ◌||◌, and_false}
+use mathlib.Core.Bool.{Bool, true, false, cond, not, ◌&&◌, ◌||◌, and-false}
 use mathlib.Core.List.{List, ◌++◌}
 use mathlib.Core.Logic.{◌⊎◌, inl, inr}
 use native.Mathlib.Omega.{arith}
@@ -36,7 +36,7 @@ record_in_rule byte = record {
 record_stays : (byte : ℕ → ℕ) → StrengthsOk byte → (b : ℕ) → converted_byte byte b ≡ byte b
 record_stays byte ok b =
     let obeyed = strengths_in byte ok in
-    rw (obeyed.0, obeyed.1.0, and_false (eqb b 2), and_false (eqb b 3)) refl
+    rw (obeyed.0, obeyed.1.0, and-false (eqb b 2), and-false (eqb b 3)) refl
 
 -- records of the same bytes are converted alike
 alike : (f g : ℕ → ℕ) → ((b : ℕ) → b < 8 → f b ≡ g b) → (b : ℕ) → b < 8 → converted_byte f b ≡ converted_byte g b

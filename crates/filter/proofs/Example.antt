@@ -66,7 +66,8 @@ row columns cell =
 one_tile : row (0 ∷ []) filtered ≡ 100 ∷ 101 ∷ 101 ∷ 102 ∷ 103 ∷ 103 ∷ 104 ∷ 104 ∷ []
 unfolding repeated picture filtered row ◌⊖◌ ◌⊞◌ ◌⊟◌ neg ◌⊠◌ lt ◌>>◌ clip3 abs nat_of pass_of restored finished_plane
     kernel window pass slices_open gate luma_filter chroma_filter between segment_at activity d_sam decision clip1 near
-    strong_line delta0 side_delta second weak_by weak_line luma_line cell_at suppressed at table slice_at same_tile average_qp
+    strong_line delta0 side_delta second weak_by weak_line luma_line cell_at suppressed at table slice_at same_tile
+    average_qp
     beta_index tc_index scaled luma_beta luma_tc BETA TC
 one_tile = refl
 
@@ -74,7 +75,8 @@ one_tile = refl
 two_tiles : row (0 ∷ 1 ∷ []) filtered ≡ 100 ∷ 100 ∷ 100 ∷ 100 ∷ 104 ∷ 104 ∷ 104 ∷ 104 ∷ []
 unfolding repeated picture filtered row ◌⊖◌ ◌⊞◌ ◌⊟◌ neg ◌⊠◌ lt ◌>>◌ clip3 abs nat_of pass_of restored finished_plane
     kernel window pass slices_open gate luma_filter chroma_filter between segment_at activity d_sam decision clip1 near
-    strong_line delta0 side_delta second weak_by weak_line luma_line cell_at suppressed at table slice_at same_tile average_qp
+    strong_line delta0 side_delta second weak_by weak_line luma_line cell_at suppressed at table slice_at same_tile
+    average_qp
     beta_index tc_index scaled luma_beta luma_tc BETA TC
 two_tiles = refl
 
@@ -82,7 +84,8 @@ two_tiles = refl
 lossless_kept : row (0 ∷ []) lossless ≡ 100 ∷ 100 ∷ 100 ∷ 100 ∷ 104 ∷ 104 ∷ 104 ∷ 104 ∷ []
 unfolding repeated picture lossless row ◌⊖◌ ◌⊞◌ ◌⊟◌ neg ◌⊠◌ lt ◌>>◌ clip3 abs nat_of pass_of restored finished_plane
     kernel window pass slices_open gate luma_filter chroma_filter between segment_at activity d_sam decision clip1 near
-    strong_line delta0 side_delta second weak_by weak_line luma_line cell_at suppressed at table slice_at same_tile average_qp
+    strong_line delta0 side_delta second weak_by weak_line luma_line cell_at suppressed at table slice_at same_tile
+    average_qp
     beta_index tc_index scaled luma_beta luma_tc BETA TC
 lossless_kept = refl
 

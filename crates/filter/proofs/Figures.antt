@@ -13,7 +13,8 @@ use Rattle.thresholds.specs.Tables.{BETA, TC, QPC}
 
 pub figures_given : AllGiven figures
 unfolding ◌⊞◌ ◌⊟◌ neg ◌⊠◌ lt ◌>>◌ clip3 abs nat_of horizontal_band_end bands_from horizontal_bands case_of chroma_delta
-    chroma_line activity d_sam decision side_count clip1 near strong_line delta0 side_delta second weak_by weak_line luma_line
+    chroma_line activity d_sam decision side_count clip1 near strong_line delta0 side_delta second weak_by weak_line
+    luma_line
     table_qpc chroma_qp chroma_tc average_qp beta_index tc_index scaled luma_beta luma_tc BETA TC QPC
 figures_given = (
   (refl, refl),

@@ -67,7 +67,8 @@ module _ (c : Component) (d : Direction) (across along : ℕ) (test : Place → 
   alone : (s : Place) → test s ≡ false → keep test (s ∷ []) ≡ []
   alone s e = rw e
 
-  edge_closed : (k : ℕ) → k < edges_in across → ((j : ℕ) → j < segments_along along → test (at (8 * (k + 1)) (4 * j)) ≡ false)
+  edge_closed : (k : ℕ) → k < edges_in across → ((j : ℕ) → j < segments_along along → test (at (8 * (k + 1)) (4 * j))
+      ≡ false)
       → keep test (of_edge k) ≡ []
   edge_closed k hk h = none_in_turn test (segments_along along) _ (λ j hj. alone _ (h j hj))
 

@@ -46,7 +46,8 @@ case_keeps = by_case (λ e. (values_of (case_of e)).d_e ≡ e.d_e) (λ p q. refl
 case_counts : (d : Decision) → d.d_e ≤ 2 → counts_of (values_of (case_of d)) ≡ counts_of d
 unfolding case_of side_count
 case_counts =
-    by_case (λ (e : Decision). counts_of (values_of (case_of e)) ≡ counts_of e) (λ p q. refl) (λ p q. refl) (λ p q. refl)
+    by_case (λ (e : Decision). counts_of (values_of (case_of e)) ≡ counts_of e) (λ p q. refl) (λ p q. refl)
+    (λ p q. refl)
 
 known : (t s p q : Bool) → (cond t (record { d_e = cond s 2 1; d_ep = p; d_eq = q }) (values_of Skip)).d_e ≤ 2
 known true true p q = omega arith

@@ -21,7 +21,8 @@ use Rattle.lines.proofs.Within.{Within, near_whole, of_chosen}
 clip1_of : {largest x : ℕ} → x ≤ largest → clip1 largest (pos x) ≡ x
 unfolding clip1 nat_of
 clip1_of {largest} {x} h =
-    ap (λ (z : ℤ). nat_of (clip3 (pos 0) (pos largest) z)) (pos_diff x) ∙ ap nat_of (clip_unit largest x 0) ∙ omega arith
+    ap (λ (z : ℤ). nat_of (clip3 (pos 0) (pos largest) z)) (pos_diff x) ∙ ap nat_of (clip_unit largest x 0)
+    ∙ omega arith
 
 -- the Rust's strong line: v.clamp(x - 2 * tc, x + 2 * tc).clamp(0, max)
 unfoldable pub rust_strong_line : ℕ → ℕ → Line → Line

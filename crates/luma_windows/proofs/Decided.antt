@@ -34,7 +34,8 @@ each_laid f base across along {xs} {ys} read made =
     filtered_as 4 _ _ base across along xs ys
     (λ i j hi hj.
     ap (λ (u : Lines). laid u W i j) (made ∙ ap (each f) read)
-    ∙ cases4 (λ (j : ℕ). laid (each f (lines_of W)) W i j ≡ get_or (samples_of (f (line_of W j))) i 0) refl refl refl refl
+    ∙ cases4 (λ (j : ℕ). laid (each f (lines_of W)) W i j ≡ get_or (samples_of (f (line_of W j))) i 0) refl refl refl
+    refl
     j hj)
 
 -- the strong and the weak filter are those of their decisions

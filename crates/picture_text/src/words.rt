@@ -1,7 +1,8 @@
 // The words of a line.
 ghost use Rattle.std.specs.Prelude.{false, ◌≡◌};
 
-use libc::STDOUT_FILENO;
+// Standard output.
+const STDOUT: i32 = 1;
 
 // The fingerprints of a picture's three planes.
 #[derive(Clone, Copy)]
@@ -13,10 +14,10 @@ pub struct Fingerprints {
 
 // A number and what follows it.
 pub(crate) fn put_number_then(n: u64, end: &[u8]) -> bool {
-    if !io::print_decimal(STDOUT_FILENO, n) {
+    if !io::print_decimal(STDOUT, n) {
         return false;
     }
-    io::write_all(STDOUT_FILENO, end)
+    io::write_all(STDOUT, end)
 }
 
 pub fn put_number(n: u64) -> bool {
@@ -25,10 +26,10 @@ pub fn put_number(n: u64) -> bool {
 
 // So many hexadecimal digits of a number, and what follows it.
 pub(crate) fn put_hex_then(n: u64, digits: usize, end: &[u8]) -> bool {
-    if !io::print_hex(STDOUT_FILENO, n, digits) {
+    if !io::print_hex(STDOUT, n, digits) {
         return false;
     }
-    io::write_all(STDOUT_FILENO, end)
+    io::write_all(STDOUT, end)
 }
 
 // The number and the place of an answer, and what follows them.
@@ -68,6 +69,6 @@ pub fn put_fingerprints(planes: Fingerprints) -> bool {
 pub fn stop(word: &[u8]) -> bool
     ensures { result ≡ false }
 {
-    io::write_all(STDOUT_FILENO, word);
+    io::write_all(STDOUT, word);
     false
 }

@@ -4,23 +4,27 @@ ghost use Rattle.std.specs.Prelude.{false, ◌≡◌, ◌*◌, length};
 ghost use Rattle.plane_counts.specs.Pairs.{Fitting};
 
 use crate::pairs::{Pair, is_inside, is_small, pair_in};
-use libc::{STDIN_FILENO, STDOUT_FILENO};
 use picture_record::{SAMPLES, read_numbers};
 use tile_parts::differing_plane;
+
+// Standard input and output.
+const STDIN: i32 = 0;
+
+const STDOUT: i32 = 1;
 
 // A word in place of a count. The answer is not to go on.
 fn stop(word: &[u8]) -> bool
     ensures { result ≡ false }
 {
-    io::write_all(STDOUT_FILENO, word);
+    io::write_all(STDOUT, word);
     false
 }
 
 fn put_count(count: usize) -> bool {
-    if !io::print_decimal(STDOUT_FILENO, count as u64) {
+    if !io::print_decimal(STDOUT, count as u64) {
         return false;
     }
-    io::write_all(STDOUT_FILENO, b"\n")
+    io::write_all(STDOUT, b"\n")
 }
 
 fn count_pair(pair: Pair, first: &[u16], second: &[u16]) -> bool
@@ -58,7 +62,7 @@ fn with_planes(pair: Pair) -> bool
 // The next record.
 fn one_pair() -> bool {
     let mut head = [0u8; 24];
-    let got = io::read_full(STDIN_FILENO, &mut head);
+    let got = io::read_full(STDIN, &mut head);
     if got == 0 {
         return false;
     }

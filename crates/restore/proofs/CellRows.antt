@@ -32,8 +32,10 @@ module _ (at count : ℕ) (mark : Bool) (os xs r : List ℕ) (ho : at + count �
 -- ---- two to four samples stored: the first two and the last two, which may be the same
 
 module _ (at : ℕ) (r : List ℕ) where
-  put : (k j : ℕ) (ys : List ℕ) → j ≡ at + k → j < length ys → get_or (set ys j (get_or r k 0)) (at + k) 0 ≡ get_or r k 0
-  put k j ys e h = ap (λ (i : ℕ). get_or (set ys j (get_or r k 0)) i 0) (sym e) ∙ get_or-set_same ys j (get_or r k 0) 0 h
+  put : (k j : ℕ) (ys : List ℕ) → j ≡ at + k → j < length ys → get_or (set ys j (get_or r k 0)) (at + k) 0
+      ≡ get_or r k 0
+  put k j ys e h = ap (λ (i : ℕ). get_or (set ys j (get_or r k 0)) i 0) (sym e) ∙ get_or-set_same ys j (get_or r k 0) 0
+      h
 
   -- a sample that is there stays, also where it is stored once more
   kept : (m k j : ℕ) (ys : List ℕ) → j ≡ at + k → j < length ys → get_or ys (at + m) 0 ≡ get_or r m 0

@@ -15,7 +15,8 @@ pub record RowRestored (at count : ℕ) (mark : Bool) (original before after : L
 abbrev pub LineRestored : Bool → List ℕ → ℕ → ℕ → ℕ → List ℕ → List ℕ → List ℕ → Type 0
 LineRestored pcm cells width row across original before after =
     (x : ℕ) → x < width * across
-    → get_or after x 0 ≡ sample_of pcm cells (cell_number width (x / across) row) (get_or original x 0) (get_or before x 0)
+    → get_or after x 0 ≡ sample_of pcm cells (cell_number width (x / across) row) (get_or original x 0)
+    (get_or before x 0)
 
 -- what is lent for such a row
 pub record LineLent (width row across : ℕ) (line original cells : List ℕ) : Type 0 where

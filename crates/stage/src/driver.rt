@@ -31,7 +31,8 @@ fn deblock(
     outcb: &mut [u16],
     outcr: &mut [u16],
 )
-    requires { Accepted (picture_given settings y.now cb.now cr.now cells.now slices.now columns.now rows.now) (planes_of outy.old outcb.old outcr.old) }
+    requires { Accepted (picture_given settings y.now cb.now cr.now cells.now slices.now columns.now rows.now)
+        (planes_of outy.old outcb.old outcr.old) }
     ensures { planes_of outy.new outcb.new outcr.new ≡
         finished (picture_given settings y.now cb.now cr.now cells.now slices.now columns.now rows.now) }
 {
@@ -67,9 +68,11 @@ pub fn apply_deblocking(
     outcr: &mut [u16],
 ) -> Verdict
     ensures verdict { numbered result ≡
-        verdict (picture_given settings y.now cb.now cr.now cells.now slices.now columns.now rows.now) (planes_of outy.old outcb.old outcr.old) }
+        verdict (picture_given settings y.now cb.now cr.now cells.now slices.now columns.now rows.now)
+        (planes_of outy.old outcb.old outcr.old) }
     ensures planes { planes_of outy.new outcb.new outcr.new ≡
-        outputs (picture_given settings y.now cb.now cr.now cells.now slices.now columns.now rows.now) (planes_of outy.old outcb.old outcr.old) }
+        outputs (picture_given settings y.now cb.now cr.now cells.now slices.now columns.now rows.now)
+        (planes_of outy.old outcb.old outcr.old) }
 {
     let lent = OutputLengths::Planes {
         y: outy.len(),

@@ -105,7 +105,8 @@ low_gives_0 d s qPL offset low hs ho =
     (λ z t. z ≤ℤ pos 3 → t ≤ℤ pos 6 → get_or TC (tc_index z (pos s) t) 0 * 2 ^ (d - 8) ≡ 0)
     (λ a b c e low ho.
     let row : get_or TC (tc_index (a ⊖ b) (pos s) (c ⊖ e)) 0 ≡ 0 =
-    ap (λ (k : ℕ). get_or TC k 0) (tc_is b a s e c) ∙ tc_none _ (omega (arith, most_out 3 a b low, most_out 6 c e ho)) in
+    ap (λ (k : ℕ). get_or TC k 0) (tc_is b a s e c) ∙ tc_none _ (omega (arith, most_out 3 a b low, most_out 6 c e ho))
+    in
     ap (λ (v : ℕ). v * 2 ^ (d - 8)) row ∙ omega arith)
     qPL
     offset

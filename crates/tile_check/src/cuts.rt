@@ -35,7 +35,8 @@ fn filter_cut(
     outcr: &mut [u16],
 )
     ensures { planes_of outy.new outcb.new outcr.new ≡
-        outputs (one_tile settings (planes_of y.now cb.now cr.now) cells.now slices.now) (planes_of outy.old outcb.old outcr.old) }
+        outputs (one_tile settings (planes_of y.now cb.now cr.now) cells.now slices.now) (planes_of outy.old outcb.old
+        outcr.old) }
 {
     let start = [0u16; 1];
     apply_deblocking(
@@ -63,11 +64,14 @@ pub(crate) fn compare_cut(
     owncb: &mut [u16],
     owncr: &mut [u16],
 ) -> usize
-    requires { CompareReady settings (part_of luma) (planes_of y.now cb.now cr.now) cells.now (planes_of outy.now outcb.now outcr.now)
+    requires { CompareReady settings (part_of luma) (planes_of y.now cb.now cr.now) cells.now
+        (planes_of outy.now outcb.now outcr.now)
         (scratch_of cuty.old cutcb.old cutcr.old cutcells.old owny.old owncb.old owncr.old) }
-    ensures count { result ≡ differing_alone settings (part_of luma) (planes_of y.now cb.now cr.now) cells.now slices.now
+    ensures count { result ≡ differing_alone settings (part_of luma) (planes_of y.now cb.now cr.now) cells.now
+        slices.now
         (planes_of owny.old owncb.old owncr.old) (planes_of outy.now outcb.now outcr.now) }
-    ensures scratch { scratch_of cuty.new cutcb.new cutcr.new cutcells.new owny.new owncb.new owncr.new ≡ filtered_alone settings (part_of luma)
+    ensures scratch { scratch_of cuty.new cutcb.new cutcr.new cutcells.new owny.new owncb.new owncr.new
+        ≡ filtered_alone settings (part_of luma)
         (planes_of y.now cb.now cr.now) cells.now slices.now (planes_of owny.old owncb.old owncr.old) }
 {
     make_cut(

@@ -58,9 +58,12 @@ fn compare_tile(
     owncb: &mut [u16],
     owncr: &mut [u16],
 ) -> TileAnswer
-    requires { Accepted (picture_given settings y.now cb.now cr.now cells.now slices.now columns.now rows.now) (planes_of outy.now outcb.now outcr.now) }
-    ensures answer { told result ≡ compared (picture_given settings y.now cb.now cr.now cells.now slices.now columns.now rows.now) at
-        (scratch_of cuty.old cutcb.old cutcr.old cutcells.old owny.old owncb.old owncr.old) (planes_of outy.now outcb.now outcr.now) }
+    requires { Accepted (picture_given settings y.now cb.now cr.now cells.now slices.now columns.now rows.now)
+        (planes_of outy.now outcb.now outcr.now) }
+    ensures answer { told result ≡ compared (picture_given settings y.now cb.now cr.now cells.now slices.now
+        columns.now rows.now) at
+        (scratch_of cuty.old cutcb.old cutcr.old cutcells.old owny.old owncb.old owncr.old)
+        (planes_of outy.now outcb.now outcr.now) }
     ensures scratch { scratch_of cuty.new cutcb.new cutcr.new cutcells.new owny.new owncb.new owncr.new ≡
         written (picture_given settings y.now cb.now cr.now cells.now slices.now columns.now rows.now) at
         (scratch_of cuty.old cutcb.old cutcr.old cutcells.old owny.old owncb.old owncr.old) }
@@ -113,14 +116,19 @@ pub fn check_tile(
     owncr: &mut [u16],
 ) -> TileAnswer
     ensures answer { told result ≡
-        outcome (picture_given settings y.now cb.now cr.now cells.now slices.now columns.now rows.now) (planes_of outy.old outcb.old outcr.old) at
+        outcome (picture_given settings y.now cb.now cr.now cells.now slices.now columns.now rows.now)
+        (planes_of outy.old outcb.old outcr.old) at
         (scratch_of cuty.old cutcb.old cutcr.old cutcells.old owny.old owncb.old owncr.old) }
-    ensures agrees { Checkable (picture_given settings y.now cb.now cr.now cells.now slices.now columns.now rows.now) (planes_of outy.old outcb.old outcr.old) at
-        (scratch_of cuty.old cutcb.old cutcr.old cutcells.old owny.old owncb.old owncr.old) → told result ≡ differing 0 }
+    ensures agrees { Checkable (picture_given settings y.now cb.now cr.now cells.now slices.now columns.now rows.now)
+        (planes_of outy.old outcb.old outcr.old) at
+        (scratch_of cuty.old cutcb.old cutcr.old cutcells.old owny.old owncb.old owncr.old) → told result
+        ≡ differing 0 }
     ensures planes { planes_of outy.new outcb.new outcr.new ≡
-        outputs (picture_given settings y.now cb.now cr.now cells.now slices.now columns.now rows.now) (planes_of outy.old outcb.old outcr.old) }
+        outputs (picture_given settings y.now cb.now cr.now cells.now slices.now columns.now rows.now)
+        (planes_of outy.old outcb.old outcr.old) }
     ensures scratch { scratch_of cuty.new cutcb.new cutcr.new cutcells.new owny.new owncb.new owncr.new ≡
-        after (picture_given settings y.now cb.now cr.now cells.now slices.now columns.now rows.now) (planes_of outy.old outcb.old outcr.old) at
+        after (picture_given settings y.now cb.now cr.now cells.now slices.now columns.now rows.now)
+        (planes_of outy.old outcb.old outcr.old) at
         (scratch_of cuty.old cutcb.old cutcr.old cutcells.old owny.old owncb.old owncr.old) }
 {
     let answer = apply_deblocking(

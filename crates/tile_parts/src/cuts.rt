@@ -25,7 +25,8 @@ pub fn make_cut(
 )
     requires { CutReady settings (part_of luma)
         (planes_of y.now cb.now cr.now) cells.now (planes_of cuty.old cutcb.old cutcr.old) cutcells.old }
-    ensures planes { planes_of cuty.new cutcb.new cutcr.new ≡ part_planes settings (part_of luma) (planes_of y.now cb.now cr.now) }
+    ensures planes { planes_of cuty.new cutcb.new cutcr.new ≡ part_planes settings (part_of luma)
+        (planes_of y.now cb.now cr.now) }
     ensures cells { cutcells.new ≡ part_cells settings (part_of luma) cells.now }
 {
     let format = settings.chroma_format;

@@ -34,7 +34,8 @@ pub extern "C" fn tinladle_deblock(
 ) -> u32
     ensures { Deblocked
         (picture_given (passed width height chroma_format luma_depth chroma_depth log2_ctb
-        cb_qp_offset cr_qp_offset pcm_loop_filter_disabled) y.now cb.now cr.now cells.now slices.now tile_columns.now tile_rows.now)
+        cb_qp_offset cr_qp_offset pcm_loop_filter_disabled) y.now cb.now cr.now cells.now slices.now tile_columns.now
+        tile_rows.now)
         (planes_of out_y.old out_cb.old out_cr.old) result place.new (planes_of out_y.new out_cb.new out_cr.new) }
 {
     let settings = Settings {

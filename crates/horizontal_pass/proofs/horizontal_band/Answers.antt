@@ -110,12 +110,14 @@ loop-e-preserved c =
       omega arith,
       omega arith,
       omega arith,
-      done_at _ _ _ (T (goal.at.loop-e-preserved c).Start) _ (rows_back _ c.args.row0 (at.e - 4) (at.e + 4) at.s strip.new.s)
+      done_at _ _ _ (T (goal.at.loop-e-preserved c).Start) _ (rows_back _ c.args.row0 (at.e - 4) (at.e + 4) at.s
+          strip.new.s)
           (omega arith)
           (done_more _ _ _ (at.e - 4) (at.e + 4) (T (goal.at.loop-e-preserved c).Start)
           (horizontal_local kernel _ _ _ _ _ c.requires.ready.columns4 c.requires.ready.rows4 (inr (inr (omega arith)))
           (inr (inr (omega arith)))) _
-          at.s strip.new.s (omega arith) (omega arith) (omega arith) (room (goal.at.loop-e-preserved c).In-loop-e).2 strip.auto.s
+          at.s strip.new.s (omega arith) (omega arith) (omega arith) (room (goal.at.loop-e-preserved c).In-loop-e).2
+          strip.auto.s
           strip.ensures at.invariant.4),
     )
 

@@ -26,7 +26,8 @@ use Rattle.horizontal_pass.proofs.horizontal_band.Given as goal
 
 abbrev pub invariant-loop-e : goal.invariant-loop-e
 invariant-loop-e l = (l.e % 8 ≡ 0) × (8 ≤ l.e) × (l.row0 + 4 ≤ l.e) × (length l.s ≡ length l.initial.s)
-    × Done l.f.columns l.row0 l.row1 (pass_for horizontal l.k l.f l.cells l.slices l.starts) (seen l.f.columns l.row0 l.initial.s) (l.e - 4) l.s
+    × Done l.f.columns l.row0 l.row1 (pass_for horizontal l.k l.f l.cells l.slices l.starts)
+    (seen l.f.columns l.row0 l.initial.s) (l.e - 4) l.s
 
 abbrev pub decreases-loop-e : goal.decreases-loop-e
 decreases-loop-e l = l.row1 - l.e

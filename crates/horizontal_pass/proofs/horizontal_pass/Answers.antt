@@ -72,7 +72,13 @@ slice_bounds-horizontal_band-end c =
 
 pub horizontal_band-requires : goal.horizontal_band-requires
 horizontal_band-requires c =
-    record { ready = c.requires.ready; s_len = omega (arith, (room (goal.at.horizontal_band-requires c).After-horiz_band_end-end)); seam = (c.loop-r.invariant.0, (room (goal.at.horizontal_band-requires c).After-horiz_band_end-end).2) }
+    record {
+      ready = c.requires.ready;
+      s_len = omega
+          (arith, (room (goal.at.horizontal_band-requires c).After-horiz_band_end-end));
+      seam =
+          (c.loop-r.invariant.0, (room (goal.at.horizontal_band-requires c).After-horiz_band_end-end).2);
+    }
 
 pub loop-r-smaller : goal.loop-r-smaller
 loop-r-smaller c =

@@ -81,7 +81,8 @@ loop-r-preserved c =
       omega arith,
       done_more _ _ _ at.r (at.r + 4) (T (goal.at.loop-r-preserved c).Start)
           (vertical_local kernel _ _ _ _ c.requires.ready.columns4 (omega arith) (omega arith)) _
-          at.s strip.new.s (omega arith) (omega arith) (omega arith) (room (goal.at.loop-r-preserved c).In-loop-r).1 strip.auto.s
+          at.s strip.new.s (omega arith) (omega arith) (omega arith) (room (goal.at.loop-r-preserved c).In-loop-r).1
+          strip.auto.s
           strip.ensures at.invariant.3,
     )
 

@@ -35,8 +35,14 @@ room c =
     let end = c.ctb_band_end-end.result in
     let rises : at.r < end = omega (arith, c.requires.ready.band_some) in
     let within : end ≤ f.rows = omega arith in
-    let m : end * f.columns ≤ f.rows * f.columns = row_le f.columns within in
-    (rises, within, omega (arith, c.requires.ready.rows4, c.requires.ready.band4), rows_between f.columns (omega arith), omega arith)
+    let m : end * f.columns ≤ f.rows * f.columns = row_le f.columns within in (
+      rises,
+      within,
+      omega (arith, c.requires.ready.rows4, c.requires.ready.band4),
+      rows_between f.columns
+          (omega arith),
+      omega arith,
+    )
 
 pub loop-r-init : goal.loop-r-init
 loop-r-init c =
@@ -72,7 +78,11 @@ slice_bounds-vertical_band-end c =
 
 pub vertical_band-requires : goal.vertical_band-requires
 vertical_band-requires c =
-    record { ready = c.requires.ready; s_len = omega (arith, (room (goal.at.vertical_band-requires c).After-ctb_band_end-end)) }
+    record {
+      ready = c.requires.ready;
+      s_len = omega
+          (arith, (room (goal.at.vertical_band-requires c).After-ctb_band_end-end));
+    }
 
 pub loop-r-smaller : goal.loop-r-smaller
 loop-r-smaller c =

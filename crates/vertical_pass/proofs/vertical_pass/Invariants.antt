@@ -16,7 +16,8 @@ use Rattle.vertical_pass.proofs.vertical_pass.Given as goal
 
 abbrev pub invariant-loop-r : goal.invariant-loop-r
 invariant-loop-r l = (l.r % 4 ≡ 0) × (l.r ≤ l.f.rows) × (length l.s ≡ length l.initial.s)
-    × DoneTo l.f.columns l.f.rows (pass_for vertical l.k l.f l.cells l.slices l.starts) (at l.initial.s l.f.columns) l.r l.s
+    × DoneTo l.f.columns l.f.rows (pass_for vertical l.k l.f l.cells l.slices l.starts) (at l.initial.s l.f.columns)
+    l.r l.s
     × Through (ctb_bands l.f.rows l.f.band) (ctb_band_end l.f.rows l.f.band) l.f.rows l.r
 
 abbrev pub decreases-loop-r : goal.decreases-loop-r

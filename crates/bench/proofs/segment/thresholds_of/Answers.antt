@@ -9,7 +9,13 @@ use Rattle.bench.proofs.segment.thresholds_of.Goals as goal
 -- the offset by both bounds, so that the other offset in its place would be refused for its value alone
 pub tc_of-requires : goal.tc_of-requires
 tc_of-requires c =
-    let listed = average_listed _ _ _ c.average_qp-average.ensures c.requires.qpp_most c.requires.qpq_most in record { tc_table = c.luma_tc_table-tcs.ensures; depth_bound = (c.requires.depth_least, c.requires.depth_most); average_bound = (listed, c.requires.bs_most, omega (arith, c.requires.beta_most, c.requires.tc_most)) }
+    let r = c.requires in
+    let listed = average_listed _ _ _ c.average_qp-average.ensures r.qpp_most r.qpq_most in
+    record {
+      tc_table = c.luma_tc_table-tcs.ensures;
+      depth_bound = (r.depth_least, r.depth_most);
+      average_bound = (listed, r.bs_most, omega (arith, r.beta_most, r.tc_most));
+    }
 
 pub returns : goal.returns
 returns c =

@@ -12,6 +12,15 @@ use Rattle.planes.specs.Window.{Filtered}
 use Rattle.planes.proofs.Windows.{filtered_none}
 use Rattle.chroma_windows.proofs.Pairs.{chroma_more}
 use Rattle.chroma_windows.proofs.chroma.vertical_chroma.Goals as goal
+use Rattle.chroma_windows.proofs.chroma.vertical_chroma.Goals.{In-loop-j}
+
+-- in a turn the line is within the slice
+room : (c : In-loop-j) → c.args.base + c.loop-j.j * c.args.along + 7 < length
+    c.loop-j.s
+room c =
+    let a : ℕ = c.args.along in
+    let m : c.loop-j.j * a ≤ 3 * a = row_le a (omega arith) in
+    omega arith
 
 pub loop-j-init : goal.loop-j-init
 loop-j-init c =
@@ -19,57 +28,27 @@ loop-j-init c =
 
 pub overflow_mul-at : goal.overflow_mul-at
 overflow_mul-at c =
-    let room : c.args.base + c.loop-j.j * c.args.along + 7 < length
-    c.loop-j.s =
-    let a : ℕ = c.args.along in
-    let m : c.loop-j.j * a ≤ 3 * a = row_le a (omega arith) in
-    omega arith in
-    omega (arith, room)
+    omega (arith, (room (goal.at.overflow_mul-at c).In-loop-j))
 
 pub overflow_add-at : goal.overflow_add-at
 overflow_add-at c =
-    let room : c.args.base + c.loop-j.j * c.args.along + 7 < length
-    c.loop-j.s =
-    let a : ℕ = c.args.along in
-    let m : c.loop-j.j * a ≤ 3 * a = row_le a (omega arith) in
-    omega arith in
-    omega (arith, room)
+    omega (arith, (room (goal.at.overflow_add-at c).In-loop-j))
 
 pub overflow_add-at-in-loop-j : goal.overflow_add-at-in-loop-j
 overflow_add-at-in-loop-j c =
-    let room : c.args.base + c.loop-j.j * c.args.along + 7 < length
-    c.loop-j.s =
-    let a : ℕ = c.args.along in
-    let m : c.loop-j.j * a ≤ 3 * a = row_le a (omega arith) in
-    omega arith in
-    omega (arith, room)
+    omega (arith, (room (goal.at.overflow_add-at-in-loop-j c).In-loop-j))
 
 pub filtered_chroma-l-requires : goal.filtered_chroma-l-requires
 filtered_chroma-l-requires c =
-    let room : c.args.base + c.loop-j.j * c.args.along + 7 < length
-    c.loop-j.s =
-    let a : ℕ = c.args.along in
-    let m : c.loop-j.j * a ≤ 3 * a = row_le a (omega arith) in
-    omega arith in
-    omega (arith, room)
+    omega (arith, (room (goal.at.filtered_chroma-l-requires c).In-loop-j))
 
 pub overflow_add-at-in-loop-j-2 : goal.overflow_add-at-in-loop-j-2
 overflow_add-at-in-loop-j-2 c =
-    let room : c.args.base + c.loop-j.j * c.args.along + 7 < length
-    c.loop-j.s =
-    let a : ℕ = c.args.along in
-    let m : c.loop-j.j * a ≤ 3 * a = row_le a (omega arith) in
-    omega arith in
-    omega (arith, room)
+    omega (arith, (room (goal.at.overflow_add-at-in-loop-j-2 c).In-loop-j))
 
 pub put_pair-requires : goal.put_pair-requires
 put_pair-requires c =
-    let room : c.args.base + c.loop-j.j * c.args.along + 7 < length
-    c.loop-j.s =
-    let a : ℕ = c.args.along in
-    let m : c.loop-j.j * a ≤ 3 * a = row_le a (omega arith) in
-    omega arith in
-    omega (arith, room)
+    omega (arith, (room (goal.at.put_pair-requires c).In-loop-j))
 
 pub loop-j-preserved : goal.loop-j-preserved
 loop-j-preserved c = (

@@ -38,6 +38,8 @@ returns c =
     let sam0 = c.d_sam-d_sam0.ensures in
     decision_answered _ _ _ _
     (elim c.if-d_sam0.branch [
-      then-d_sam0+else-d_sam3 w ↦ decided_weak3 _ _ a c.if-d-beta.false sam0 w.if-d_sam0.true w.d_sam-d_sam3.ensures w.if-d_sam3.false
-    | else-d_sam0 w ↦ decided_weak0 _ _ a c.if-d-beta.false sam0 w.if-d_sam0.false ])
+      | then-d_sam0+else-d_sam3 w ↦ decided_weak3 _ _ a c.if-d-beta.false sam0 w.if-d_sam0.true w.d_sam-d_sam3.ensures
+          w.if-d_sam3.false
+      | else-d_sam0 w ↦ decided_weak0 _ _ a c.if-d-beta.false sam0 w.if-d_sam0.false
+    ])
     c.with_counts-2.ensures.decision c.with_counts-2.ensures.counts

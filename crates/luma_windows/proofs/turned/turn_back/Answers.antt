@@ -11,6 +11,15 @@ use Rattle.planes.proofs.Windows.{filtered_none, filtered_more}
 use Rattle.luma_windows.specs.Decided.{shown}
 use Rattle.luma_windows.proofs.Turn.{shown_line}
 use Rattle.luma_windows.proofs.turned.turn_back.Goals as goal
+use Rattle.luma_windows.proofs.turned.turn_back.Goals.{In-loop-j}
+
+-- in a turn the line is within the slice
+room : (c : In-loop-j) → c.args.base + c.loop-j.j * c.args.along + 7 < length
+    c.loop-j.s
+room c =
+    let a : ℕ = c.args.along in
+    let m : c.loop-j.j * a ≤ 3 * a = row_le a (omega arith) in
+    omega arith
 
 pub loop-j-init : goal.loop-j-init
 loop-j-init c =
@@ -18,30 +27,15 @@ loop-j-init c =
 
 pub overflow_mul-j : goal.overflow_mul-j
 overflow_mul-j c =
-    let room : c.args.base + c.loop-j.j * c.args.along + 7 < length
-    c.loop-j.s =
-    let a : ℕ = c.args.along in
-    let m : c.loop-j.j * a ≤ 3 * a = row_le a (omega arith) in
-    omega arith in
-    omega (arith, room)
+    omega (arith, (room (goal.at.overflow_mul-j c).In-loop-j))
 
 pub overflow_add-base : goal.overflow_add-base
 overflow_add-base c =
-    let room : c.args.base + c.loop-j.j * c.args.along + 7 < length
-    c.loop-j.s =
-    let a : ℕ = c.args.along in
-    let m : c.loop-j.j * a ≤ 3 * a = row_le a (omega arith) in
-    omega arith in
-    omega (arith, room)
+    omega (arith, (room (goal.at.overflow_add-base c).In-loop-j))
 
 pub put_line-requires : goal.put_line-requires
 put_line-requires c =
-    let room : c.args.base + c.loop-j.j * c.args.along + 7 < length
-    c.loop-j.s =
-    let a : ℕ = c.args.along in
-    let m : c.loop-j.j * a ≤ 3 * a = row_le a (omega arith) in
-    omega arith in
-    (omega (arith, room), omega arith)
+    (omega (arith, (room (goal.at.put_line-requires c).In-loop-j)), omega arith)
 
 pub loop-j-preserved : goal.loop-j-preserved
 loop-j-preserved c = (

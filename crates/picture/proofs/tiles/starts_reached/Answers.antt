@@ -17,8 +17,9 @@ loop-i-preserved c =
     let ctb = c.args.ctb in
     let i = c.loop-i.i in
     elim c.if-starts-i.branch [
-      then-starts-i w ↦ omega (arith, start_reached l ctb i (omega arith) (omega arith))
-    | else-starts-i w ↦ omega (arith, start_past l ctb i (omega arith) (omega arith)) ]
+      | then-starts-i w ↦ omega (arith, start_reached l ctb i (omega arith) (omega arith))
+      | else-starts-i w ↦ omega (arith, start_past l ctb i (omega arith) (omega arith))
+    ]
 
 pub returns : goal.returns
 returns c =

@@ -12,7 +12,8 @@ use Rattle.picture.proofs.Records.{start_reached, start_past, starts_none}
 use Rattle.picture.proofs.tiles.starts_reached.Given as goal
 
 abbrev pub invariant-loop-i : goal.invariant-loop-i
-invariant-loop-i l = (l.i ≤ length l.starts) × (l.n ≤ l.i) × (l.n + tile_of (drop l.i l.starts) l.ctb ≡ tile_of l.starts l.ctb)
+invariant-loop-i l = (l.i ≤ length l.starts) × (l.n ≤ l.i) × (l.n + tile_of (drop l.i l.starts) l.ctb
+    ≡ tile_of l.starts l.ctb)
 
 abbrev pub decreases-loop-i : goal.decreases-loop-i
 decreases-loop-i l = length l.starts - l.i

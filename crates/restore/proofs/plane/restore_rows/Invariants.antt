@@ -15,7 +15,8 @@ use Rattle.restore.proofs.Restored.{restored_local}
 use Rattle.restore.proofs.plane.restore_rows.Given as goal
 
 abbrev pub invariant-loop-y : goal.invariant-loop-y
-invariant-loop-y l = (l.y ≤ l.f.rows) × (l.across ≡ from_luma (across_for l.k) 4) × (length l.plane ≡ length l.initial.plane)
+invariant-loop-y l = (l.y ≤ l.f.rows) × (l.across ≡ from_luma (across_for l.k) 4)
+    × (length l.plane ≡ length l.initial.plane)
     × DoneTo l.f.columns l.f.rows (restored_for l.pcm l.cells l.k l.f (at l.original l.f.columns))
     (at l.initial.plane l.f.columns) l.y l.plane
 

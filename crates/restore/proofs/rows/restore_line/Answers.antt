@@ -7,6 +7,13 @@ use lib.ListN.{length}
 use Rattle.picture.proofs.Index.{row_step}
 use Rattle.restore.proofs.CellRows.{LineDone, line_none, line_more, line_all}
 use Rattle.restore.proofs.rows.restore_line.Goals as goal
+use Rattle.restore.proofs.rows.restore_line.Goals.{In-loop-gx}
+
+-- the cell's row lies in the line
+room : (c : In-loop-gx) → let a = c.args in
+    c.loop-gx.gx * a.across + a.across ≤ a.width.0 * a.across
+room c =
+    row_step c.args.across (omega arith)
 
 pub loop-gx-init : goal.loop-gx-init
 loop-gx-init c =
@@ -14,17 +21,11 @@ loop-gx-init c =
 
 pub overflow_mul-gx : goal.overflow_mul-gx
 overflow_mul-gx c =
-    let room : let a = c.args in
-    c.loop-gx.gx * a.across + a.across ≤ a.width.0 * a.across =
-    row_step c.args.across (omega arith) in
-    omega (arith, room)
+    omega (arith, (room (goal.at.overflow_mul-gx c).In-loop-gx))
 
 pub restore_row-requires : goal.restore_row-requires
 restore_row-requires c =
-    let room : let a = c.args in
-    c.loop-gx.gx * a.across + a.across ≤ a.width.0 * a.across =
-    row_step c.args.across (omega arith) in
-    omega (arith, room)
+    omega (arith, (room (goal.at.restore_row-requires c).In-loop-gx))
 
 pub loop-gx-preserved : goal.loop-gx-preserved
 loop-gx-preserved c =

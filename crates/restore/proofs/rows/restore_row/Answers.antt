@@ -59,7 +59,8 @@ returns-then-suppressed c =
     let samples =
     row_at a.at a.count a.suppressed a.original.now a.line.now c.cell_row-row.result.now
     c.requires.count_in_bounds.0 c.requires.count_in_bounds.1 c.cell_row-row.ensures mark in
-    row_stored a.at c.cell_row-row.result.now a.count a.line.now c.requires.count_in_bounds.1 c.requires.count_bound.0 c.requires.count_bound.1
+    row_stored a.at c.cell_row-row.result.now a.count a.line.now c.requires.count_in_bounds.1 c.requires.count_bound.0
+    c.requires.count_bound.1
     a.suppressed a.original.now mark samples
 
 pub returns-else-suppressed : goal.returns-else-suppressed

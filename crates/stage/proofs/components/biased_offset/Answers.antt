@@ -26,7 +26,8 @@ overflow_add-result c =
 
 pub overflow_cast-result : goal.overflow_cast-result
 overflow_cast-result c =
-    sum_casts c.args.offset _ (held (goal.at.overflow_cast-result c).Start) c.requires _ (to_z-of_z (fits (goal.at.overflow_cast-result c).Start))
+    sum_casts c.args.offset _ (held (goal.at.overflow_cast-result c).Start) c.requires _
+    (to_z-of_z (fits (goal.at.overflow_cast-result c).Start))
 
 pub returns : goal.returns
 returns c =

@@ -40,12 +40,16 @@ returns-in_default-clause-verdict c =
 
 pub returns-in_default-clause-planes : goal.returns-in_default-clause-planes
 returns-in_default-clause-planes c =
-    let answer = c.check-answer.result in left_as_it_was (picture (goal.at.returns-in_default-clause-planes c).Start) (lent (goal.at.returns-in_default-clause-planes c).Start) answer (answered (goal.at.returns-in_default-clause-planes c).After-check-answer)
+    let answer = c.check-answer.result in left_as_it_was (picture (goal.at.returns-in_default-clause-planes c).Start)
+    (lent (goal.at.returns-in_default-clause-planes c).Start) answer
+    (answered (goal.at.returns-in_default-clause-planes c).After-check-answer)
     (refuses answer c.in_default.not-Accepted)
 
 pub deblock-requires : goal.deblock-requires
 deblock-requires c =
-    accepted_by (picture (goal.at.deblock-requires c).Start) (lent (goal.at.deblock-requires c).Start) (accepts (picture (goal.at.deblock-requires c).Start) (lent (goal.at.deblock-requires c).Start) _ (answered (goal.at.deblock-requires c).After-check-answer) c.in-Accepted.is)
+    accepted_by (picture (goal.at.deblock-requires c).Start) (lent (goal.at.deblock-requires c).Start)
+    (accepts (picture (goal.at.deblock-requires c).Start) (lent (goal.at.deblock-requires c).Start) _
+    (answered (goal.at.deblock-requires c).After-check-answer) c.in-Accepted.is)
 
 pub returns-clause-verdict : goal.returns-clause-verdict
 returns-clause-verdict c =
@@ -53,5 +57,6 @@ returns-clause-verdict c =
 
 pub returns-clause-planes : goal.returns-clause-planes
 returns-clause-planes c =
-    left_finished (picture (goal.at.returns-clause-planes c).Start) (lent (goal.at.returns-clause-planes c).Start) _ (answered (goal.at.returns-clause-planes c).After-check-answer) c.in-Accepted.is _
+    left_finished (picture (goal.at.returns-clause-planes c).Start) (lent (goal.at.returns-clause-planes c).Start) _
+    (answered (goal.at.returns-clause-planes c).After-check-answer) c.in-Accepted.is _
     c.deblock.ensures

@@ -43,14 +43,16 @@ luma_frame-f-requires c =
 
 pub finish_plane-requires : goal.finish_plane-requires
 finish_plane-requires c =
-    plane_ready (picture (goal.at.finish_plane-requires c).Start) (lent (goal.at.finish_plane-requires c).Start) c.requires 12 Y tt c.luma_component-k.ensures
+    plane_ready (picture (goal.at.finish_plane-requires c).Start) (lent (goal.at.finish_plane-requires c).Start)
+    c.requires 12 Y tt c.luma_component-k.ensures
     c.luma_frame-f.ensures c.restoration_of-r.ensures c.luma_tc_table-tcs.ensures
 
 pub returns-then-settings-eq0 : goal.returns-then-settings-eq0
 returns-then-settings-eq0 c =
     let format = c.args.settings.chroma_format in
     planes_finished (picture (goal.at.returns-then-settings-eq0 c).Start) _ _ _
-    (plane_finished (picture (goal.at.returns-then-settings-eq0 c).Start) 12 Y tt c.restoration_of-r.ensures.0 c.luma_component-k.ensures
+    (plane_finished (picture (goal.at.returns-then-settings-eq0 c).Start) 12 Y tt c.restoration_of-r.ensures.0
+    c.luma_component-k.ensures
     c.luma_frame-f.ensures _ c.finish_plane.ensures)
     (absent_plane format _ _ c.args.outcb.now _ c.if-settings-eq0.true (c.requires.outputs_long Cb))
     (absent_plane format _ _ c.args.outcr.now _ c.if-settings-eq0.true (c.requires.outputs_long Cr))
@@ -69,12 +71,14 @@ chroma_frame-fc-requires c =
 
 pub finish_plane-requires-2 : goal.finish_plane-requires-2
 finish_plane-requires-2 c =
-    plane_ready (picture (goal.at.finish_plane-requires-2 c).Start) (lent (goal.at.finish_plane-requires-2 c).Start) c.requires _ Cb (present (goal.at.finish_plane-requires-2 c).Else-settings-eq0) c.chroma_component-kb.ensures
+    plane_ready (picture (goal.at.finish_plane-requires-2 c).Start) (lent (goal.at.finish_plane-requires-2 c).Start)
+    c.requires _ Cb (present (goal.at.finish_plane-requires-2 c).Else-settings-eq0) c.chroma_component-kb.ensures
     c.chroma_frame-fc.ensures c.restoration_of-r.ensures c.luma_tc_table-tcs.ensures
 
 pub finish_plane-requires-3 : goal.finish_plane-requires-3
 finish_plane-requires-3 c =
-    plane_ready (picture (goal.at.finish_plane-requires-3 c).Start) (lent (goal.at.finish_plane-requires-3 c).Start) c.requires _ Cr (present (goal.at.finish_plane-requires-3 c).Else-settings-eq0) c.chroma_component-kr.ensures
+    plane_ready (picture (goal.at.finish_plane-requires-3 c).Start) (lent (goal.at.finish_plane-requires-3 c).Start)
+    c.requires _ Cr (present (goal.at.finish_plane-requires-3 c).Else-settings-eq0) c.chroma_component-kr.ensures
     c.chroma_frame-fc.ensures c.restoration_of-r.ensures c.luma_tc_table-tcs.ensures
 
 pub shape_of-outy : goal.shape_of-outy

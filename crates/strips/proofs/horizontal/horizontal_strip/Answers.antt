@@ -28,7 +28,8 @@ loop-x-preserved c =
     let inv = c.loop-x.invariant in (
       omega arith,
       c.horizontal_segment.auto.s ∙ inv.1,
-      segments_more _ _ _ _ _ _ _ _ _ c.requires.ready.columns4 (omega (arith, c.requires.s_len)) (omega (arith, c.requires.s_len))
+      segments_more _ _ _ _ _ _ _ _ _ c.requires.ready.columns4 (omega (arith, c.requires.s_len))
+          (omega (arith, c.requires.s_len))
           (omega (arith, c.requires.s_len))
           inv.0 (omega arith) inv.2 c.horizontal_segment.ensures.filtered,
     )

@@ -36,15 +36,28 @@ returns-then-not-horizontal_edge-clause-value c =
 
 pub horizontal_filter-requires : goal.horizontal_filter-requires
 horizontal_filter-requires c =
-    record { ready = c.requires.ready; on_edge = omega (arith, c.requires.s_len); flagged = sym c.horizontal_edge.ensures ∙ c.if-not-horizontal_edge.false }
+    record {
+      ready = c.requires.ready;
+      on_edge = omega (arith, c.requires.s_len);
+      flagged = sym
+          c.horizontal_edge.ensures ∙ c.if-not-horizontal_edge.false;
+    }
 
 pub horizontal_luma-requires : goal.horizontal_luma-requires
 horizontal_luma-requires c =
-    record { across_in_bounds = omega (arith, c.requires.s_len); strides = apart_rows _ (omega (arith, c.requires.s_len)) }
+    record {
+      across_in_bounds = omega (arith, c.requires.s_len);
+      strides = apart_rows _
+          (omega (arith, c.requires.s_len));
+    }
 
 pub horizontal_chroma-requires : goal.horizontal_chroma-requires
 horizontal_chroma-requires c =
-    record { across_in_bounds = omega (arith, c.requires.s_len); strides = apart_rows _ (omega (arith, c.requires.s_len)) }
+    record {
+      across_in_bounds = omega (arith, c.requires.s_len);
+      strides = apart_rows _
+          (omega (arith, c.requires.s_len));
+    }
 
 pub returns-in-Closed-clause-filtered : goal.returns-in-Closed-clause-filtered
 returns-in-Closed-clause-filtered c =

@@ -40,15 +40,28 @@ overflow_sub-base c =
 
 pub vertical_filter-requires : goal.vertical_filter-requires
 vertical_filter-requires c =
-    record { ready = c.requires.ready; on_edge = omega (arith, c.requires.s_len); flagged = sym c.vertical_edge.ensures ∙ c.if-not-vertical_edge.false }
+    record {
+      ready = c.requires.ready;
+      on_edge = omega (arith, c.requires.s_len);
+      flagged = sym c.vertical_edge.ensures
+          ∙ c.if-not-vertical_edge.false;
+    }
 
 pub vertical_luma-requires : goal.vertical_luma-requires
 vertical_luma-requires c =
-    record { along_in_bounds = omega (arith, c.requires.s_len); strides = apart_columns _ (omega (arith, c.requires.s_len)) }
+    record {
+      along_in_bounds = omega (arith, c.requires.s_len);
+      strides = apart_columns _
+          (omega (arith, c.requires.s_len));
+    }
 
 pub vertical_chroma-requires : goal.vertical_chroma-requires
 vertical_chroma-requires c =
-    record { along_in_bounds = omega (arith, c.requires.s_len); strides = apart_columns _ (omega (arith, c.requires.s_len)) }
+    record {
+      along_in_bounds = omega (arith, c.requires.s_len);
+      strides = apart_columns _
+          (omega (arith, c.requires.s_len));
+    }
 
 pub returns-in-Closed-clause-filtered : goal.returns-in-Closed-clause-filtered
 returns-in-Closed-clause-filtered c =

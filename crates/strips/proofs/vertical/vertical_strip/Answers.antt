@@ -29,7 +29,8 @@ loop-e-preserved c =
       omega arith,
       omega arith,
       c.vertical_segment.auto.s ∙ inv.2,
-      columns_more _ _ _ _ _ _ _ _ c.requires.ready.columns4 (omega (arith, c.requires.s_len)) inv.0 inv.1 (omega arith) inv.3
+      columns_more _ _ _ _ _ _ _ _ c.requires.ready.columns4 (omega (arith, c.requires.s_len)) inv.0 inv.1
+          (omega arith) inv.3
           c.vertical_segment.ensures.filtered,
     )
 

@@ -22,7 +22,11 @@ make_cut-requires c =
 pub differing_samples-requires : goal.differing_samples-requires
 differing_samples-requires c =
     let kept = c.filter_cut.auto in
-    record { rooms = c.requires.outputs_in; sized = sized_again (omega (arith, kept)) (omega (arith, kept)) (omega (arith, kept)) c.requires.outputs_own }
+    record {
+      rooms = c.requires.outputs_in;
+      sized = sized_again (omega (arith, kept)) (omega (arith, kept))
+          (omega (arith, kept)) c.requires.outputs_own;
+    }
 
 pub returns-clause-count : goal.returns-clause-count
 returns-clause-count c =

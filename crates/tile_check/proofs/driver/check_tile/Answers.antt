@@ -41,13 +41,18 @@ pub returns-in_default-clause-answer : goal.returns-in_default-clause-answer
 returns-in_default-clause-answer c =
     let v = c.apply_deblocking-answer.result in
     let told = c.apply_deblocking-answer.ensures.verdict in
-    let some = refuses v c.in_default.not-Accepted in refusal_is (picture (goal.at.returns-in_default-clause-answer c).Start) (lent (goal.at.returns-in_default-clause-answer c).Start) c.args.at (lists (goal.at.returns-in_default-clause-answer c).Start) v told some
+    let some = refuses v c.in_default.not-Accepted in refusal_is (picture (goal.at.returns-in_default-clause-answer
+    c).Start) (lent (goal.at.returns-in_default-clause-answer c).Start) c.args.at
+    (lists (goal.at.returns-in_default-clause-answer c).Start) v told some
 
 pub returns-in_default-clause-agrees : goal.returns-in_default-clause-agrees
 returns-in_default-clause-agrees c =
     let v = c.apply_deblocking-answer.result in
     let told = c.apply_deblocking-answer.ensures.verdict in
-    let some = refuses v c.in_default.not-Accepted in (λ ok. absurd (no_refusal (picture (goal.at.returns-in_default-clause-agrees c).Start) (lent (goal.at.returns-in_default-clause-agrees c).Start) c.args.at (lists (goal.at.returns-in_default-clause-agrees c).Start) v told some ok))
+    let some = refuses v c.in_default.not-Accepted in
+    (λ ok. absurd (no_refusal (picture (goal.at.returns-in_default-clause-agrees c).Start)
+    (lent (goal.at.returns-in_default-clause-agrees c).Start) c.args.at
+    (lists (goal.at.returns-in_default-clause-agrees c).Start) v told some ok))
 
 pub returns-in_default-clause-planes : goal.returns-in_default-clause-planes
 returns-in_default-clause-planes c =
@@ -59,39 +64,54 @@ pub returns-in_default-clause-scratch : goal.returns-in_default-clause-scratch
 returns-in_default-clause-scratch c =
     let v = c.apply_deblocking-answer.result in
     let told = c.apply_deblocking-answer.ensures.verdict in
-    let some = refuses v c.in_default.not-Accepted in refusal_leaves (picture (goal.at.returns-in_default-clause-scratch c).Start) (lent (goal.at.returns-in_default-clause-scratch c).Start) c.args.at (lists (goal.at.returns-in_default-clause-scratch c).Start) v told some
+    let some = refuses v c.in_default.not-Accepted in refusal_leaves
+    (picture (goal.at.returns-in_default-clause-scratch c).Start)
+    (lent (goal.at.returns-in_default-clause-scratch c).Start) c.args.at
+    (lists (goal.at.returns-in_default-clause-scratch c).Start) v told some
 
 pub compare_tile-requires : goal.compare_tile-requires
 compare_tile-requires c =
     let kept = c.apply_deblocking-answer.auto in
-    accepted_still (picture (goal.at.compare_tile-requires c).Start) (lent (goal.at.compare_tile-requires c).Start) c.apply_deblocking-answer.ensures.verdict c.in-Accepted.is
+    accepted_still (picture (goal.at.compare_tile-requires c).Start) (lent (goal.at.compare_tile-requires c).Start)
+    c.apply_deblocking-answer.ensures.verdict c.in-Accepted.is
     (omega (arith, kept)) (omega (arith, kept)) (omega (arith, kept))
 
 pub returns-clause-answer : goal.returns-clause-answer
 returns-clause-answer c =
     let told = c.apply_deblocking-answer.ensures.verdict in
     let left = c.apply_deblocking-answer.ensures.planes in
-    let is = outcome_is (picture (goal.at.returns-clause-answer c).Start) (lent (goal.at.returns-clause-answer c).Start) c.args.at (lists (goal.at.returns-clause-answer c).Start) told c.in-Accepted.is left
+    let is = outcome_is (picture (goal.at.returns-clause-answer c).Start)
+    (lent (goal.at.returns-clause-answer c).Start) c.args.at (lists (goal.at.returns-clause-answer c).Start) told
+    c.in-Accepted.is left
     c.compare_tile.ensures.answer in is
 
 pub returns-clause-agrees : goal.returns-clause-agrees
 returns-clause-agrees c =
     let told = c.apply_deblocking-answer.ensures.verdict in
     let left = c.apply_deblocking-answer.ensures.planes in
-    let is = outcome_is (picture (goal.at.returns-clause-agrees c).Start) (lent (goal.at.returns-clause-agrees c).Start) c.args.at (lists (goal.at.returns-clause-agrees c).Start) told c.in-Accepted.is left
-    c.compare_tile.ensures.answer in (λ fit. is ∙ none_differs (picture (goal.at.returns-clause-agrees c).Start) (lent (goal.at.returns-clause-agrees c).Start) c.args.at (lists (goal.at.returns-clause-agrees c).Start) fit)
+    let is = outcome_is (picture (goal.at.returns-clause-agrees c).Start)
+    (lent (goal.at.returns-clause-agrees c).Start) c.args.at (lists (goal.at.returns-clause-agrees c).Start) told
+    c.in-Accepted.is left
+    c.compare_tile.ensures.answer in (λ fit. is ∙ none_differs (picture (goal.at.returns-clause-agrees c).Start)
+    (lent (goal.at.returns-clause-agrees c).Start) c.args.at (lists (goal.at.returns-clause-agrees c).Start) fit)
 
 pub returns-clause-planes : goal.returns-clause-planes
 returns-clause-planes c =
     let told = c.apply_deblocking-answer.ensures.verdict in
     let left = c.apply_deblocking-answer.ensures.planes in
-    let is = outcome_is (picture (goal.at.returns-clause-planes c).Start) (lent (goal.at.returns-clause-planes c).Start) c.args.at (lists (goal.at.returns-clause-planes c).Start) told c.in-Accepted.is left
+    let is = outcome_is (picture (goal.at.returns-clause-planes c).Start)
+    (lent (goal.at.returns-clause-planes c).Start) c.args.at (lists (goal.at.returns-clause-planes c).Start) told
+    c.in-Accepted.is left
     c.compare_tile.ensures.answer in left
 
 pub returns-clause-scratch : goal.returns-clause-scratch
 returns-clause-scratch c =
     let told = c.apply_deblocking-answer.ensures.verdict in
     let left = c.apply_deblocking-answer.ensures.planes in
-    let is = outcome_is (picture (goal.at.returns-clause-scratch c).Start) (lent (goal.at.returns-clause-scratch c).Start) c.args.at (lists (goal.at.returns-clause-scratch c).Start) told c.in-Accepted.is left
-    c.compare_tile.ensures.answer in after_is (picture (goal.at.returns-clause-scratch c).Start) (lent (goal.at.returns-clause-scratch c).Start) c.args.at (lists (goal.at.returns-clause-scratch c).Start) told c.in-Accepted.is
+    let is = outcome_is (picture (goal.at.returns-clause-scratch c).Start)
+    (lent (goal.at.returns-clause-scratch c).Start) c.args.at (lists (goal.at.returns-clause-scratch c).Start) told
+    c.in-Accepted.is left
+    c.compare_tile.ensures.answer in after_is (picture (goal.at.returns-clause-scratch c).Start)
+    (lent (goal.at.returns-clause-scratch c).Start) c.args.at (lists (goal.at.returns-clause-scratch c).Start) told
+    c.in-Accepted.is
     c.compare_tile.ensures.scratch

@@ -37,11 +37,15 @@ lists c =
 
 pub returns-then-columns-at-clause-answer : goal.returns-then-columns-at-clause-answer
 returns-then-columns-at-clause-answer c =
-    (no_tile_lem (picture (goal.at.returns-then-columns-at-clause-answer c).Start) c.args.at c.if-columns-at.true (lists (goal.at.returns-then-columns-at-clause-answer c).Start) (out (goal.at.returns-then-columns-at-clause-answer c).Start)).0
+    (no_tile_lem (picture (goal.at.returns-then-columns-at-clause-answer c).Start) c.args.at c.if-columns-at.true
+    (lists (goal.at.returns-then-columns-at-clause-answer c).Start)
+    (out (goal.at.returns-then-columns-at-clause-answer c).Start)).0
 
 pub returns-then-columns-at-clause-scratch : goal.returns-then-columns-at-clause-scratch
 returns-then-columns-at-clause-scratch c =
-    (no_tile_lem (picture (goal.at.returns-then-columns-at-clause-scratch c).Start) c.args.at c.if-columns-at.true (lists (goal.at.returns-then-columns-at-clause-scratch c).Start) (out (goal.at.returns-then-columns-at-clause-scratch c).Start)).1
+    (no_tile_lem (picture (goal.at.returns-then-columns-at-clause-scratch c).Start) c.args.at c.if-columns-at.true
+    (lists (goal.at.returns-then-columns-at-clause-scratch c).Start)
+    (out (goal.at.returns-then-columns-at-clause-scratch c).Start)).1
 
 pub luma_part-luma-requires : goal.luma_part-luma-requires
 luma_part-luma-requires c =
@@ -49,22 +53,26 @@ luma_part-luma-requires c =
 
 pub alone-requires : goal.alone-requires
 alone-requires c =
-    part_small (picture (goal.at.alone-requires c).Start) c.args.at c.requires c.if-columns-at.false c.luma_part-luma.ensures
+    part_small (picture (goal.at.alone-requires c).Start) c.args.at c.requires c.if-columns-at.false
+    c.luma_part-luma.ensures
 
 pub bad_scratch-requires : goal.bad_scratch-requires
 bad_scratch-requires c =
-    own_small (picture (goal.at.bad_scratch-requires c).Start) c.args.at c.requires c.if-columns-at.false c.luma_part-luma.ensures
+    own_small (picture (goal.at.bad_scratch-requires c).Start) c.args.at c.requires c.if-columns-at.false
+    c.luma_part-luma.ensures
     c.alone.ensures
 
 pub returns-then-bad_scratch-clause-answer : goal.returns-then-bad_scratch-clause-answer
 returns-then-bad_scratch-clause-answer c =
-    (bad_lengths_lem (picture (goal.at.returns-then-bad_scratch-clause-answer c).Start) c.args.at c.requires c.if-columns-at.false
+    (bad_lengths_lem (picture (goal.at.returns-then-bad_scratch-clause-answer c).Start) c.args.at c.requires
+    c.if-columns-at.false
     c.luma_part-luma.ensures c.alone.ensures (lists (goal.at.returns-then-bad_scratch-clause-answer c).Start)
     c.bad_scratch.ensures c.if-bad_scratch.true (out (goal.at.returns-then-bad_scratch-clause-answer c).Start)).0
 
 pub returns-then-bad_scratch-clause-scratch : goal.returns-then-bad_scratch-clause-scratch
 returns-then-bad_scratch-clause-scratch c =
-    (bad_lengths_lem (picture (goal.at.returns-then-bad_scratch-clause-scratch c).Start) c.args.at c.requires c.if-columns-at.false
+    (bad_lengths_lem (picture (goal.at.returns-then-bad_scratch-clause-scratch c).Start) c.args.at c.requires
+    c.if-columns-at.false
     c.luma_part-luma.ensures c.alone.ensures (lists (goal.at.returns-then-bad_scratch-clause-scratch c).Start)
     c.bad_scratch.ensures c.if-bad_scratch.true (out (goal.at.returns-then-bad_scratch-clause-scratch c).Start)).1
 
@@ -78,12 +86,14 @@ pub returns-clause-answer : goal.returns-clause-answer
 returns-clause-answer c =
     (count_is (picture (goal.at.returns-clause-answer c).Start) c.args.at c.requires c.if-columns-at.false
     c.luma_part-luma.ensures c.alone.ensures (lists (goal.at.returns-clause-answer c).Start)
-    c.bad_scratch.ensures c.if-bad_scratch.false (out (goal.at.returns-clause-answer c).Start) c.compare_cut.ensures.count
+    c.bad_scratch.ensures c.if-bad_scratch.false (out (goal.at.returns-clause-answer c).Start)
+    c.compare_cut.ensures.count
     c.compare_cut.ensures.scratch).0
 
 pub returns-clause-scratch : goal.returns-clause-scratch
 returns-clause-scratch c =
     (count_is (picture (goal.at.returns-clause-scratch c).Start) c.args.at c.requires c.if-columns-at.false
     c.luma_part-luma.ensures c.alone.ensures (lists (goal.at.returns-clause-scratch c).Start)
-    c.bad_scratch.ensures c.if-bad_scratch.false (out (goal.at.returns-clause-scratch c).Start) c.compare_cut.ensures.count
+    c.bad_scratch.ensures c.if-bad_scratch.false (out (goal.at.returns-clause-scratch c).Start)
+    c.compare_cut.ensures.count
     c.compare_cut.ensures.scratch).1

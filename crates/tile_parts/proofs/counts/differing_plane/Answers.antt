@@ -51,7 +51,12 @@ differing_row-n-requires c =
 
 pub overflow_add-n : goal.overflow_add-n
 overflow_add-n c =
-    omega (arith, (few (goal.at.overflow_add-n c).After-differing_row-n), (own (goal.at.overflow_add-n c).In-loop-y), c.loop-y.invariant.1)
+    omega (
+      arith,
+      (few (goal.at.overflow_add-n c).After-differing_row-n),
+      (own (goal.at.overflow_add-n c).In-loop-y),
+      c.loop-y.invariant.1,
+    )
 
 pub overflow_add-y : goal.overflow_add-y
 overflow_add-y c =
@@ -73,11 +78,13 @@ returns-clause-value c =
     let a = c.args in
     let l = c.loop-y in
     let small = cut_small a.cut.now c.requires.room c.requires.cut_len in
-    let all = row_le a.part.width {r = l.y} {q = a.part.height} l.invariant.0 in rows_all a.cut.now a.out.now a.stride (part_of a.part) {y = l.y} (omega arith) l.invariant.2
+    let all = row_le a.part.width {r = l.y} {q = a.part.height} l.invariant.0 in rows_all a.cut.now a.out.now a.stride
+    (part_of a.part) {y = l.y} (omega arith) l.invariant.2
 
 pub returns-clause-upper_bound : goal.returns-clause-upper_bound
 returns-clause-upper_bound c =
     let a = c.args in
     let l = c.loop-y in
     let small = cut_small a.cut.now c.requires.room c.requires.cut_len in
-    let all = row_le a.part.width {r = l.y} {q = a.part.height} l.invariant.0 in omega (arith, small, all, l.invariant.1, c.requires.cut_len)
+    let all = row_le a.part.width {r = l.y} {q = a.part.height} l.invariant.0 in omega
+    (arith, small, all, l.invariant.1, c.requires.cut_len)

@@ -9,7 +9,8 @@ use Rattle.tile_parts.proofs.Counted.{rows_to, rows_more, rows_all, row_few, own
 use Rattle.tile_parts.proofs.counts.differing_plane.Given as goal
 
 abbrev pub invariant-loop-y : goal.invariant-loop-y
-invariant-loop-y l = (l.y ≤ l.part.height) × (l.n ≤ l.y * l.part.width) × (l.n ≡ rows_to l.cut l.out l.stride (part_of l.part) l.y)
+invariant-loop-y l = (l.y ≤ l.part.height) × (l.n ≤ l.y * l.part.width)
+    × (l.n ≡ rows_to l.cut l.out l.stride (part_of l.part) l.y)
 
 abbrev pub decreases-loop-y : goal.decreases-loop-y
 decreases-loop-y l = l.part.height - l.y

@@ -42,16 +42,17 @@ loop-x-preserved c =
     let l = c.loop-x in
     let a = c.args in
     elim c.if-cut-own.branch [
-      then-cut-own w ↦ (
+      | then-cut-own w ↦ (
         omega arith,
         omega (arith, w.n-is),
         w.n-is ∙ row_differs a.cut.now a.own a.out.now a.start l.x l.invariant.2 w.if-cut-own.true,
       )
-    | else-cut-own w ↦ (
+      | else-cut-own w ↦ (
         omega arith,
         omega (arith, w.n-is),
         w.n-is ∙ row_same a.cut.now a.own a.out.now a.start l.x l.invariant.2 w.if-cut-own.false,
-      ) ]
+      )
+    ]
 
 pub returns : goal.returns
 returns c =

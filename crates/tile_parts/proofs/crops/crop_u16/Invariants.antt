@@ -11,7 +11,8 @@ use Rattle.tile_parts.proofs.Cropped.{Copied, copied_all, copied_more, place_in,
 use Rattle.tile_parts.proofs.crops.crop_u16.Given as goal
 
 abbrev pub invariant-loop-k : goal.invariant-loop-k
-invariant-loop-k l = (l.k ≤ length l.initial.to) × (length l.to ≡ length l.initial.to) × Copied l.from l.stride (part_of l.part) l.k l.to
+invariant-loop-k l = (l.k ≤ length l.initial.to) × (length l.to ≡ length l.initial.to) × Copied l.from l.stride
+    (part_of l.part) l.k l.to
 
 abbrev pub decreases-loop-k : goal.decreases-loop-k
 decreases-loop-k l = length l.initial.to - l.k

@@ -7,11 +7,19 @@ use Rattle.tile_parts.proofs.cuts.differing_samples.Goals as goal
 
 pub differing_plane-cb-requires : goal.differing_plane-cb-requires
 differing_plane-cb-requires c =
-    record { room = room_as c.chroma_part-chroma.ensures c.chroma-stride.ensures c.requires.rooms.cb; cut_len = long_as c.chroma_part-chroma.ensures c.requires.sized.cb }
+    record {
+      room = room_as c.chroma_part-chroma.ensures c.chroma-stride.ensures c.requires.rooms.cb;
+      cut_len = long_as
+          c.chroma_part-chroma.ensures c.requires.sized.cb;
+    }
 
 pub differing_plane-cr-requires : goal.differing_plane-cr-requires
 differing_plane-cr-requires c =
-    record { room = room_as c.chroma_part-chroma.ensures c.chroma-stride.ensures c.requires.rooms.cr; cut_len = long_as c.chroma_part-chroma.ensures c.requires.sized.cr }
+    record {
+      room = room_as c.chroma_part-chroma.ensures c.chroma-stride.ensures c.requires.rooms.cr;
+      cut_len = long_as
+          c.chroma_part-chroma.ensures c.requires.sized.cr;
+    }
 
 pub returns : goal.returns
 returns c =

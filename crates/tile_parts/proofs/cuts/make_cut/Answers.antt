@@ -8,11 +8,19 @@ use Rattle.tile_parts.proofs.cuts.make_cut.Goals as goal
 
 pub crop_u16-requires-2 : goal.crop_u16-requires-2
 crop_u16-requires-2 c =
-    record { room = room_as c.chroma_part-chroma.ensures c.chroma-stride.ensures c.requires.planes_in.cb; to_len = long_as c.chroma_part-chroma.ensures c.requires.planes_own.cb }
+    record {
+      room = room_as c.chroma_part-chroma.ensures c.chroma-stride.ensures c.requires.planes_in.cb;
+      to_len =
+          long_as c.chroma_part-chroma.ensures c.requires.planes_own.cb;
+    }
 
 pub crop_u16-requires-3 : goal.crop_u16-requires-3
 crop_u16-requires-3 c =
-    record { room = room_as c.chroma_part-chroma.ensures c.chroma-stride.ensures c.requires.planes_in.cr; to_len = long_as c.chroma_part-chroma.ensures c.requires.planes_own.cr }
+    record {
+      room = room_as c.chroma_part-chroma.ensures c.chroma-stride.ensures c.requires.planes_in.cr;
+      to_len =
+          long_as c.chroma_part-chroma.ensures c.requires.planes_own.cr;
+    }
 
 pub row_bytes-requires : goal.row_bytes-requires
 row_bytes-requires c =
@@ -25,7 +33,11 @@ cell_part-requires c =
 
 pub crop_u8-requires : goal.crop_u8-requires
 crop_u8-requires c =
-    record { room = room_as c.cell_part.ensures c.row_bytes.ensures c.requires.cells_in; to_len = long_as c.cell_part.ensures c.requires.cells_own }
+    record {
+      room = room_as c.cell_part.ensures c.row_bytes.ensures c.requires.cells_in;
+      to_len = long_as
+          c.cell_part.ensures c.requires.cells_own;
+    }
 
 pub returns-clause-planes : goal.returns-clause-planes
 returns-clause-planes c =

@@ -31,7 +31,8 @@ picture c cb cr =
     a.y.now a.cb.now a.cr.now a.cells.now a.slices.now a.tile_columns.now a.tile_rows.now
 
 -- an offset that the struct holds is the one that was passed
-same_picture : (c : Start) → picture c (to_z w32 (of_z w32 c.args.cb_qp_offset)) (to_z w32 (of_z w32 c.args.cr_qp_offset))
+same_picture : (c : Start) → picture c (to_z w32 (of_z w32 c.args.cb_qp_offset))
+    (to_z w32 (of_z w32 c.args.cr_qp_offset))
     ≡ picture c c.args.cb_qp_offset c.args.cr_qp_offset
 same_picture c = ap₂ (picture c) (to_z-of_z c.ranges.cb_qp_offset) (to_z-of_z c.ranges.cr_qp_offset)
 

@@ -43,7 +43,8 @@ pub returns-in-Refused : goal.returns-in-Refused
 returns-in-Refused c =
     let start = (goal.at.returns-in-Refused c).Start in
     pixel_by (picture start) start.args.column start.args.row (lent start)
-    (said (goal.at.returns-in-Refused c).After-pixel_at-pixel) c.in-Refused.is c.number_of.ensures c.place_of.ensures refl
+    (said (goal.at.returns-in-Refused c).After-pixel_at-pixel) c.in-Refused.is c.number_of.ensures c.place_of.ensures
+    refl
 
 pub returns-in-Outside : goal.returns-in-Outside
 returns-in-Outside c =

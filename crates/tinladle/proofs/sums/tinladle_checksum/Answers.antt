@@ -38,7 +38,8 @@ pub returns-in-Refused : goal.returns-in-Refused
 returns-in-Refused c =
     let start = (goal.at.returns-in-Refused c).Start in
     summed_by (picture start) (lent start)
-    (sym (ap answer_of c.in-Refused.is) ∙ said (goal.at.returns-in-Refused c).After-picture_checksums-answer) c.number_of.ensures c.place_of.ensures refl
+    (sym (ap answer_of c.in-Refused.is) ∙ said (goal.at.returns-in-Refused c).After-picture_checksums-answer)
+    c.number_of.ensures c.place_of.ensures refl
 
 pub returns-in-One : goal.returns-in-One
 returns-in-One c =
