@@ -6,7 +6,7 @@
 # 100,000 damaged and 100,000 adversarial pictures, 100,000 pictures' planes and 30,000,000 floats from seed 20261115, on all cores, and as
 # many lists as accepted pictures.
 # Prints a tally. The status is 0 only where nothing differs; at the first difference the smallest picture found that shows it is printed
-# and written to target/compare/smallest, as a record that target/bin/picture_cases reads.
+# and written to target/compare/smallest, as a record that crates/picture_cases/out/picture_cases reads.
 set -eu
 root=$(cd "$(dirname "$0")/.." && pwd)
 case ${1:-} in
@@ -24,8 +24,9 @@ rustc --edition 2024 -C opt-level=3 -C debug-assertions=on -C overflow-checks=on
     -L native=target/staticlib -l static=tinladle -o target/compare/compare compare/main.rs
 target/compare/compare "$@"
 # The program is not in the library.
-if [ -x target/bin/convert_cells ]; then
-    target/compare/compare --program target/bin/convert_cells --accepted 2000
+program=crates/convert_cells/out/convert_cells
+if [ -x "$program" ]; then
+    target/compare/compare --program "$program" --accepted 2000
 else
-    echo "not compared: target/bin/convert_cells, which rt check convert_cells proves and builds"
+    echo "not compared: $program, which rt run in crates/convert_cells proves and builds"
 fi

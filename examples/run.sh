@@ -1,5 +1,5 @@
 #!/bin/sh
-# Proves the library (rt staticlib tinladle), builds the tool and deblocks the shipped example: examples/run.sh
+# Proves the library (rt lib), builds the tool and deblocks the shipped example: examples/run.sh
 # Needs the Rattle kit's rt, cargo and rustc. What it writes goes to target/example. It proves what the library is
 # made of and no more: term 3 and the programs are proved by .ci/run. With TINLADLE_LIB_DIR set nothing is proved: the
 # library there is taken as it is.

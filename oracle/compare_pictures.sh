@@ -1,6 +1,6 @@
 #!/bin/sh
 # Runs the oracle and PROGRAM on the same random pictures: oracle/compare_pictures.sh [SRC] PROGRAM COUNT SEED
-# With SRC, as oracle/build.sh takes it, the oracle is built first. PROGRAM is target/bin/picture_cases, or another that
+# With SRC, as oracle/build.sh takes it, the oracle is built first. PROGRAM is crates/picture_cases/out/picture_cases, or another that
 # prints the same. Prints a tally. The status is 0 only where the outputs are the same bytes.
 set -eu
 here=$(cd "$(dirname "$0")" && pwd)

@@ -4,7 +4,7 @@
     in_rule.py BEFORE [AFTER]     two revisions; AFTER is HEAD where it is not given
 
 Of each stored picture of BEFORE, AFTER has the same record at the same place, byte for byte, or where it was accepted with a
-strength that has no edge the same with its cell list as the program target/bin/convert_cells converts it; and each line of
+strength that has no edge the same with its cell list as the program crates/convert_cells/out/convert_cells converts it; and each line of
 BEFORE's output, but for `short`, which closes it. What AFTER has more comes after them. All other stored inputs and outputs,
 and the shipped example, are the same bytes. The status is 1 where that is not so.
 """
@@ -18,7 +18,7 @@ from ledger import verdict
 from revisions import run
 from stored import ROOT, stop
 
-PROGRAM = ROOT / "target" / "bin" / "convert_cells"
+PROGRAM = ROOT / "crates" / "convert_cells" / "out" / "convert_cells"
 
 
 def by_program(picture):
@@ -28,7 +28,7 @@ def by_program(picture):
 
 def converted(pictures):
     if not PROGRAM.exists():
-        stop(f"{PROGRAM.relative_to(ROOT)} is missing: rt check convert_cells proves and builds it")
+        stop(f"{PROGRAM.relative_to(ROOT)} is missing: rt run in crates/convert_cells proves and builds it")
     return [None if picture.in_rule() or verdict(picture, rule=False) != (0, 0) else by_program(picture) for picture in pictures]
 
 

@@ -106,7 +106,7 @@ impl Picture {
         self.columns.len() == 1 && self.rows.len() == 1
     }
 
-    /// The picture as a record of oracle/README.md, which target/bin/picture_cases reads.
+    /// The picture as a record of oracle/README.md, which crates/picture_cases/out/picture_cases reads.
     pub fn record(&self) -> Vec<u8> {
         let mut words = vec![0x53484C54, self.width, self.height, self.format, self.luma_depth, self.chroma_depth];
         words.extend([self.log2_ctb, self.cb_offset as u32, self.cr_offset as u32, u32::from(self.pcm_switch)]);

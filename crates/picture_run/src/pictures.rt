@@ -9,7 +9,6 @@ ghost use Rattle.picture_run.specs.Sums.{finished_answer};
 use crate::{Shown, Task};
 use checksum::{Checksums, picture_checksums};
 use ledger::Verdict;
-use libc::STDIN_FILENO;
 use moves::farthest_move;
 use picture::Settings;
 use picture_record::{SAMPLES, front, length_at, settings, word};
@@ -17,6 +16,9 @@ use picture_text::{Moves, put_checksums, put_line, put_moves, put_pixel, stop};
 use recogniser::pixel_at;
 use stage::apply_deblocking;
 use tile_run::{JUNK, LentSamples, tile_lines};
+
+// Standard input.
+const STDIN: i32 = 0;
 
 // The checksums of what the stage left, or its refusal.
 fn finished_checksums(
@@ -159,7 +161,7 @@ fn with_outputs(
 // A pixel of the given planes. Its column and row, a word each, stand behind the picture.
 fn pixel_line(number: u64, settings: Settings, y: &[u16], cb: &[u16], cr: &[u16]) -> bool {
     let mut at = [0u8; 8];
-    if io::read_full(STDIN_FILENO, &mut at) < 8 {
+    if io::read_full(STDIN, &mut at) < 8 {
         return stop(b"short\n");
     }
     put_pixel(

@@ -2,12 +2,14 @@
 // that failed.
 use crate::pictures::answer;
 use crate::{Shown, Task};
-use libc::STDIN_FILENO;
 use picture_record::{
     CELL_BYTES, SAMPLES, SLICE_BYTES, STARTS, all_fit, front, front_of_bytes, is_marked, length_at,
     read_bytes, read_numbers,
 };
 use picture_text::stop;
+
+// Standard input.
+const STDIN: i32 = 0;
 
 // The lists after the planes.
 fn read_lists(
@@ -81,7 +83,7 @@ fn with_planes(task: Task, number: u64, head: &[u8; 80]) -> bool {
 // The next record.
 fn one_picture(task: Task, number: u64) -> bool {
     let mut head = [0u8; 80];
-    let got = io::read_full(STDIN_FILENO, &mut head);
+    let got = io::read_full(STDIN, &mut head);
     if got == 0 {
         return false;
     }

@@ -2,10 +2,12 @@
 // the answer in words.
 use fingerprint::plane_fingerprint;
 use ledger::{Verdict, number_of, place_of};
-use libc::STDOUT_FILENO;
 use picture_text::{Fingerprints, put_fingerprints, put_number};
 use tile_check::TileAnswer;
 use tile_parts::{CutSize, TileAt};
+
+// Standard output.
+const STDOUT: i32 = 1;
 
 // What is tried: a tile of a picture, with the list `wrong` of its cut one off its length, or none (0).
 #[derive(Clone, Copy)]
@@ -29,20 +31,20 @@ pub(crate) fn put_place(trial: Trial) -> bool {
 }
 
 fn put_refused(verdict: Verdict) -> bool {
-    if !io::write_all(STDOUT_FILENO, b"refused ") {
+    if !io::write_all(STDOUT, b"refused ") {
         return false;
     }
     if !put_number(number_of(verdict) as u64) {
         return false;
     }
-    if !io::print_decimal(STDOUT_FILENO, place_of(verdict)) {
+    if !io::print_decimal(STDOUT, place_of(verdict)) {
         return false;
     }
-    io::write_all(STDOUT_FILENO, b"\n")
+    io::write_all(STDOUT, b"\n")
 }
 
 fn put_differing(count: usize, planes: Fingerprints) -> bool {
-    if !io::write_all(STDOUT_FILENO, b"differing ") {
+    if !io::write_all(STDOUT, b"differing ") {
         return false;
     }
     if !put_number(count as u64) {
@@ -63,8 +65,8 @@ pub(crate) fn put_tile(
 ) -> bool {
     match answer {
         TileAnswer::Refused(verdict) => put_refused(verdict),
-        TileAnswer::NoTile => io::write_all(STDOUT_FILENO, b"no tile\n"),
-        TileAnswer::Lengths => io::write_all(STDOUT_FILENO, b"lengths\n"),
+        TileAnswer::NoTile => io::write_all(STDOUT, b"no tile\n"),
+        TileAnswer::Lengths => io::write_all(STDOUT, b"lengths\n"),
         TileAnswer::Differing(count) => put_differing(
             count,
             Fingerprints {

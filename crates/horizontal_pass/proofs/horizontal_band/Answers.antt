@@ -1,6 +1,6 @@
 -- `horizontal_band` meets its contract. The loop's invariant: the rows before e - 4 are done.
 -- Assumes nothing.
-use Prim.Native.Nat.{ℕ, ◌+◌, ◌-◌, ◌*◌, ◌/◌, ◌%◌, ◌≤◌}
+use Prim.Native.Nat.{ℕ, ◌+◌, ◌-◌, ◌*◌, ◌/◌, ◌≤◌}
 use mathlib.Core.Logic.{inr}
 use mathlib.Core.Path.{◌≡◌, refl, ap, ◌∙◌}
 use native.Mathlib.Omega.{arith}
@@ -9,17 +9,7 @@ use Rattle.filter.specs.Kernel.{kernel}
 use Rattle.filter.specs.Segment.{horizontal}
 use Rattle.picture.specs.Plane.{Plane}
 use Rattle.picture.proofs.Index.{row_le, rows_on}
-use Rattle.planes.specs.Rows.{seen}
-use Rattle.planes.proofs.Bands.{
-  Done,
-  done_at,
-  done_more,
-  horizontal_local,
-  horizontal_none,
-  horizontal_all,
-  edge_room,
-  first_edge,
-}
+use Rattle.planes.proofs.Bands.{done_at, done_more, horizontal_local, horizontal_none, horizontal_all, edge_room, first_edge}
 use Rattle.planes.proofs.Parts.{rows_back}
 use Rattle.strips.specs.Passed.{pass_for}
 use Rattle.horizontal_pass.proofs.horizontal_band.Goals as goal

@@ -1,26 +1,11 @@
 -- `horizontal_band` meets its contract. The loop's invariant: the rows before e - 4 are done.
 -- Assumes nothing.
-use Prim.Native.Nat.{ℕ, ◌+◌, ◌-◌, ◌*◌, ◌/◌, ◌%◌, ◌≤◌}
-use mathlib.Core.Logic.{inr}
-use mathlib.Core.Path.{◌≡◌, refl, ap, ◌∙◌}
-use native.Mathlib.Omega.{arith}
+use Prim.Native.Nat.{◌+◌, ◌-◌, ◌%◌, ◌≤◌}
+use mathlib.Core.Path.{◌≡◌}
 use lib.ListN.{length}
-use Rattle.filter.specs.Kernel.{kernel}
 use Rattle.filter.specs.Segment.{horizontal}
-use Rattle.picture.specs.Plane.{Plane}
-use Rattle.picture.proofs.Index.{row_le, rows_on}
 use Rattle.planes.specs.Rows.{seen}
-use Rattle.planes.proofs.Bands.{
-  Done,
-  done_at,
-  done_more,
-  horizontal_local,
-  horizontal_none,
-  horizontal_all,
-  edge_room,
-  first_edge,
-}
-use Rattle.planes.proofs.Parts.{rows_back}
+use Rattle.planes.proofs.Bands.{Done}
 use Rattle.strips.specs.Passed.{pass_for}
 use Rattle.horizontal_pass.proofs.horizontal_band.Given as goal
 

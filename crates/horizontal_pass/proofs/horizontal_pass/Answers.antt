@@ -5,13 +5,13 @@ use mathlib.Core.Logic.{inl}
 use mathlib.Core.Path.{◌≡◌, refl}
 use native.Mathlib.Omega.{arith}
 use lib.ListN.{length}
-use Rattle.filter.specs.Bands.{horizontal_bands, horizontal_band_end, Seam}
+use Rattle.filter.specs.Bands.{Seam}
 use Rattle.filter.specs.Kernel.{kernel}
 use Rattle.filter.specs.Segment.{horizontal}
-use Rattle.filter.proofs.AllBands.{Through, horizontal_start, horizontal_next, horizontal_end}
+use Rattle.filter.proofs.AllBands.{horizontal_start, horizontal_next, horizontal_end}
 use Rattle.picture.specs.Plane.{Plane, at}
 use Rattle.picture.proofs.Index.{row_le, rows_between}
-use Rattle.planes.proofs.Bands.{DoneTo, plane_none, plane_all, plane_more, horizontal_local}
+use Rattle.planes.proofs.Bands.{plane_none, plane_all, plane_more, horizontal_local}
 use Rattle.strips.specs.Passed.{pass_for}
 use Rattle.horizontal_pass.proofs.horizontal_pass.Goals as goal
 use Rattle.horizontal_pass.proofs.horizontal_pass.Goals.{Start, After-horiz_band_end-end}

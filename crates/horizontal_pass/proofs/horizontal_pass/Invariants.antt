@@ -1,17 +1,13 @@
 -- `horizontal_pass` meets its contract. The loop's invariant: the rows before r are done, and r is where a band ends.
 -- Assumes nothing.
-use Prim.Native.Nat.{◌+◌, ◌-◌, ◌*◌, ◌≤◌, ◌<◌}
-use mathlib.Core.Logic.{inl}
-use mathlib.Core.Path.{◌≡◌, refl}
-use native.Mathlib.Omega.{arith}
+use Prim.Native.Nat.{◌-◌, ◌≤◌}
+use mathlib.Core.Path.{◌≡◌}
 use lib.ListN.{length}
 use Rattle.filter.specs.Bands.{horizontal_bands, horizontal_band_end, Seam}
-use Rattle.filter.specs.Kernel.{kernel}
 use Rattle.filter.specs.Segment.{horizontal}
-use Rattle.filter.proofs.AllBands.{Through, horizontal_start, horizontal_next, horizontal_end}
-use Rattle.picture.specs.Plane.{Plane, at}
-use Rattle.picture.proofs.Index.{row_le, rows_between}
-use Rattle.planes.proofs.Bands.{DoneTo, plane_none, plane_all, plane_more, horizontal_local}
+use Rattle.filter.proofs.AllBands.{Through}
+use Rattle.picture.specs.Plane.{at}
+use Rattle.planes.proofs.Bands.{DoneTo}
 use Rattle.strips.specs.Passed.{pass_for}
 use Rattle.horizontal_pass.proofs.horizontal_pass.Given as goal
 

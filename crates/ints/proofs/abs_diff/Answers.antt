@@ -2,7 +2,6 @@
 -- Assumes nothing.
 use native.Mathlib.Omega.{arith}
 use Rattle.ints.proofs.Laws.{gap_is}
-use borrow.Author.Rules.{rules}
 use Rattle.ints.proofs.abs_diff.Goals as goal
 
 pub returns-then-a-b : goal.returns-then-a-b

@@ -1,7 +1,6 @@
 -- `largest_at` meets its contract: a shift of 1 by at most 16 is a power of two.
 -- Assumes nothing.
 use native.Mathlib.Omega.{arith}
-use borrow.Author.Rules.{rules}
 use Rattle.ints.proofs.Powers.{power_least, power_most, shifted}
 use Rattle.ints.proofs.largest_at.Goals as goal
 

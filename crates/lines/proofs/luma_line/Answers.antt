@@ -1,6 +1,5 @@
 -- `luma_line` meets its contract: each arm knows the variant, and its callee ensures the rest.
 -- Assumes nothing.
-use borrow.Author.Rules.{rules}
 use mathlib.Core.Path.{refl}
 use Rattle.lines.specs.Luma.{luma_line}
 use Rattle.lines.proofs.luma_line.Goals as goal

@@ -1,5 +1,4 @@
 -- `text::put_byte` meets its contract: one store. Assumes nothing.
-use borrow.Author.Rules.{rules}
 use Rattle.text.proofs.Append.{appended_one}
 use Rattle.text.proofs.put_byte.Goals as goal
 

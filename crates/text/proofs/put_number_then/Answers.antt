@@ -1,7 +1,5 @@
 -- `text::put_number_then` meets its contract: a number, and then a byte.
 -- Assumes nothing.
-use native.Mathlib.Omega.{arith}
-use borrow.Author.Rules.{rules}
 use Rattle.text.proofs.Append.{appended_then}
 use Rattle.text.proofs.put_number_then.Goals as goal
 

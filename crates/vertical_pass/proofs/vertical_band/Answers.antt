@@ -1,6 +1,6 @@
 -- `vertical_band` meets its contract. The loop's invariant: the rows before r are done.
 -- Assumes nothing.
-use Prim.Native.Nat.{◌+◌, ◌-◌, ◌*◌, ◌%◌, ◌≤◌}
+use Prim.Native.Nat.{◌+◌, ◌-◌, ◌*◌, ◌≤◌}
 use mathlib.Core.Path.{◌≡◌, refl}
 use native.Mathlib.Omega.{arith}
 use lib.ListN.{length}
@@ -8,8 +8,7 @@ use Rattle.filter.specs.Kernel.{kernel}
 use Rattle.filter.specs.Segment.{vertical}
 use Rattle.picture.specs.Plane.{Plane}
 use Rattle.picture.proofs.Index.{row_le, rows_on}
-use Rattle.planes.specs.Rows.{seen}
-use Rattle.planes.proofs.Bands.{Done, done_none, done_all, done_more, vertical_local}
+use Rattle.planes.proofs.Bands.{done_none, done_all, done_more, vertical_local}
 use Rattle.strips.specs.Passed.{pass_for}
 use Rattle.vertical_pass.proofs.vertical_band.Goals as goal
 use Rattle.vertical_pass.proofs.vertical_band.Goals.{Start, In-loop-r}

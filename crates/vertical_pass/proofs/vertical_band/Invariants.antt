@@ -1,15 +1,11 @@
 -- `vertical_band` meets its contract. The loop's invariant: the rows before r are done.
 -- Assumes nothing.
-use Prim.Native.Nat.{◌+◌, ◌-◌, ◌*◌, ◌%◌, ◌≤◌}
-use mathlib.Core.Path.{◌≡◌, refl}
-use native.Mathlib.Omega.{arith}
+use Prim.Native.Nat.{◌-◌, ◌%◌, ◌≤◌}
+use mathlib.Core.Path.{◌≡◌}
 use lib.ListN.{length}
-use Rattle.filter.specs.Kernel.{kernel}
 use Rattle.filter.specs.Segment.{vertical}
-use Rattle.picture.specs.Plane.{Plane}
-use Rattle.picture.proofs.Index.{row_le, rows_on}
 use Rattle.planes.specs.Rows.{seen}
-use Rattle.planes.proofs.Bands.{Done, done_none, done_all, done_more, vertical_local}
+use Rattle.planes.proofs.Bands.{Done}
 use Rattle.strips.specs.Passed.{pass_for}
 use Rattle.vertical_pass.proofs.vertical_band.Given as goal
 

@@ -4,13 +4,13 @@ use Prim.Native.Nat.{◌+◌, ◌-◌, ◌*◌, ◌%◌, ◌≤◌, ◌<◌}
 use mathlib.Core.Path.{◌≡◌, refl}
 use native.Mathlib.Omega.{arith}
 use lib.ListN.{length}
-use Rattle.filter.specs.Bands.{ctb_bands, ctb_band_end}
+use Rattle.filter.specs.Bands.{ctb_band_end}
 use Rattle.filter.specs.Kernel.{kernel}
 use Rattle.filter.specs.Segment.{vertical}
-use Rattle.filter.proofs.AllBands.{Through, ctb_start, ctb_next}
+use Rattle.filter.proofs.AllBands.{ctb_start, ctb_next}
 use Rattle.picture.specs.Plane.{Plane, at}
 use Rattle.picture.proofs.Index.{row_le, rows_between}
-use Rattle.planes.proofs.Bands.{DoneTo, plane_none, plane_all, plane_more, vertical_local}
+use Rattle.planes.proofs.Bands.{plane_none, plane_all, plane_more, vertical_local}
 use Rattle.strips.specs.Passed.{pass_for}
 use Rattle.vertical_pass.proofs.vertical_pass.Goals as goal
 use Rattle.vertical_pass.proofs.vertical_pass.Goals.{Start, After-ctb_band_end-end}

@@ -1,16 +1,13 @@
 -- `vertical_pass` meets its contract. The loop's invariant: the rows before r are done, and r is where a band ends.
 -- Assumes nothing.
-use Prim.Native.Nat.{◌+◌, ◌-◌, ◌*◌, ◌%◌, ◌≤◌, ◌<◌}
-use mathlib.Core.Path.{◌≡◌, refl}
-use native.Mathlib.Omega.{arith}
+use Prim.Native.Nat.{◌-◌, ◌%◌, ◌≤◌}
+use mathlib.Core.Path.{◌≡◌}
 use lib.ListN.{length}
 use Rattle.filter.specs.Bands.{ctb_bands, ctb_band_end}
-use Rattle.filter.specs.Kernel.{kernel}
 use Rattle.filter.specs.Segment.{vertical}
-use Rattle.filter.proofs.AllBands.{Through, ctb_start, ctb_next}
-use Rattle.picture.specs.Plane.{Plane, at}
-use Rattle.picture.proofs.Index.{row_le, rows_between}
-use Rattle.planes.proofs.Bands.{DoneTo, plane_none, plane_all, plane_more, vertical_local}
+use Rattle.filter.proofs.AllBands.{Through}
+use Rattle.picture.specs.Plane.{at}
+use Rattle.planes.proofs.Bands.{DoneTo}
 use Rattle.strips.specs.Passed.{pass_for}
 use Rattle.vertical_pass.proofs.vertical_pass.Given as goal
 

@@ -1,7 +1,6 @@
 -- `filtered_chroma` meets its contract: the line that is read is filtered.
 -- Assumes nothing.
 use mathlib.Core.Path.{◌∙◌, ap}
-use borrow.Author.Rules.{rules}
 use Rattle.filter.specs.declared.ChromaFilter.{ChromaFilter}
 use Rattle.lines.specs.Chroma.{chroma_line}
 use Rattle.chroma_windows.proofs.chroma.filtered_chroma.Goals as goal

@@ -1,9 +1,6 @@
 -- `horizontal_chroma` meets its contract: `chroma_put` puts the four lines and the two rows together.
 -- Assumes nothing.
-use mathlib.Core.Path.{◌≡◌}
 use native.Mathlib.Omega.{arith}
-use borrow.Author.Rules.{rules}
-use lib.ListN.{length}
 use Rattle.chroma_windows.proofs.PairRows.{chroma_put}
 use Rattle.chroma_windows.proofs.chroma.horizontal_chroma.Goals as goal
 

@@ -1,7 +1,6 @@
 -- `put_pair` meets its contract: `put_two` puts the two stores together.
 -- Assumes nothing.
 use native.Mathlib.Omega.{arith}
-use borrow.Author.Rules.{rules}
 use Rattle.chroma_windows.proofs.Pairs.{put_two}
 use Rattle.chroma_windows.proofs.chroma.put_pair.Goals as goal
 

@@ -1,16 +1,10 @@
 -- `vertical_chroma` meets its contract. The loop's invariant: the first j lines are filtered, and the others are as
 -- they were.
 -- Assumes nothing.
-use Prim.Native.Nat.{ℕ, ◌+◌, ◌-◌, ◌*◌, ◌≤◌, ◌<◌}
-use mathlib.Core.Path.{◌≡◌}
-use native.Mathlib.Omega.{arith}
-use lib.ListN.{length}
+use Prim.Native.Nat.{◌-◌, ◌≤◌}
 use Rattle.filter.specs.Answer.{chroma_of}
 use Rattle.filter.specs.Kernel.{kernel}
-use Rattle.picture.proofs.Index.{row_le}
 use Rattle.planes.specs.Window.{Filtered}
-use Rattle.planes.proofs.Windows.{filtered_none}
-use Rattle.chroma_windows.proofs.Pairs.{chroma_more}
 use Rattle.chroma_windows.proofs.chroma.vertical_chroma.Given as goal
 
 abbrev pub invariant-loop-j : goal.invariant-loop-j

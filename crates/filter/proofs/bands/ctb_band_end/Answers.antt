@@ -2,7 +2,6 @@
 -- Assumes nothing.
 use native.Mathlib.Omega.{arith}
 use Rattle.filter.specs.Bands.{ctb_band_end}
-use borrow.Author.Rules.{rules}
 use Rattle.filter.proofs.bands.ctb_band_end.Goals as goal
 
 pub returns-then-row-height : goal.returns-then-row-height

@@ -1,7 +1,6 @@
 -- `horiz_band_end` meets its contract, by the three cases of document 01.
 -- Assumes nothing.
 use Rattle.filter.proofs.Leaves.{band_last, band_near, band_far}
-use borrow.Author.Rules.{rules}
 use Rattle.filter.proofs.bands.horiz_band_end.Goals as goal
 
 pub returns-then-target-total : goal.returns-then-target-total

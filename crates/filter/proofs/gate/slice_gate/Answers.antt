@@ -1,7 +1,6 @@
 -- `slice_gate` meets its contract: at each `return` the tests that led there say what Q's slice allows.
 -- Assumes nothing.
 use Rattle.filter.proofs.Leaves.{gate_disabled, gate_across, gate_one, gate_apart}
-use borrow.Author.Rules.{rules}
 use Rattle.filter.proofs.gate.slice_gate.Goals as goal
 
 pub returns-then-s : goal.returns-then-s

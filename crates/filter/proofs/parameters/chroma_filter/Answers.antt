@@ -1,6 +1,5 @@
 -- `chroma_filter` meets its contract: `chroma_made` puts the average and tc together.
 -- Assumes nothing.
-use borrow.Author.Rules.{rules}
 use Rattle.filter.proofs.Leaves.{chroma_made}
 use Rattle.filter.proofs.parameters.chroma_filter.Goals as goal
 

@@ -1,6 +1,5 @@
 -- `luma_filter` meets its contract: `luma_made` puts the average, beta and tc together.
 -- Assumes nothing.
-use borrow.Author.Rules.{rules}
 use Rattle.thresholds.proofs.LumaTable.{average_listed}
 use Rattle.filter.proofs.Leaves.{luma_made}
 use Rattle.filter.proofs.parameters.luma_filter.Goals as goal

@@ -1,6 +1,5 @@
 -- `chroma_line` meets its contract: `chroma_made` puts the two samples together.
 -- Assumes nothing.
-use borrow.Author.Rules.{rules}
 use native.Mathlib.Omega.{arith}
 use Rattle.lines.proofs.Filtered.{chroma_made}
 use Rattle.lines.proofs.chroma.chroma_line.Goals as goal

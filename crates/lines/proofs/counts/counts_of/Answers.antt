@@ -1,7 +1,6 @@
 -- `counts_of` meets its contract: each arm knows the variant.
 -- Assumes nothing.
 use mathlib.Core.Path.{refl}
-use borrow.Author.Rules.{rules}
 use Rattle.lines.specs.Decision.{side_count}
 use Rattle.lines.proofs.counts.counts_of.Goals as goal
 

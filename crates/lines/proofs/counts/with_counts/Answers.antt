@@ -1,7 +1,5 @@
 -- `with_counts` meets its contract: it puts the two together.
 -- Assumes nothing.
-use mathlib.Core.Path.{refl}
-use borrow.Author.Rules.{rules}
 use Rattle.lines.proofs.counts.with_counts.Goals as goal
 
 pub returns-clause-counts : goal.returns-clause-counts

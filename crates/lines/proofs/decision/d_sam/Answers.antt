@@ -1,6 +1,5 @@
 -- `d_sam` meets its contract: at each `return` the tests that led there say what the flag is.
 -- Assumes nothing.
-use borrow.Author.Rules.{rules}
 use Prim.Native.Nat.{◌+◌}
 use mathlib.Core.Path.{ap₂}
 use Rattle.lines.proofs.Decided.{flat_no1, flat_no2, flat_yes}

@@ -1,6 +1,5 @@
 -- `luma_decision` meets its contract: at each `return` the tests that led there say which case the decision is.
 -- Assumes nothing.
-use borrow.Author.Rules.{rules}
 use Rattle.lines.proofs.Answer.{decision_answered}
 use Rattle.lines.proofs.Decided.{Activities, decided_skip, decided_weak0, decided_weak3, decided_strong}
 use Rattle.lines.proofs.decision.luma_decision.Goals as goal

@@ -2,7 +2,6 @@
 -- Assumes nothing.
 use native.Mathlib.Omega.{arith}
 use Rattle.lines.proofs.Numbers.{near_made}
-use borrow.Author.Rules.{rules}
 use Rattle.lines.proofs.strong.clip_near.Goals as goal
 
 pub returns : goal.returns

@@ -1,6 +1,5 @@
 -- `strong_line` meets its contract: `strong_made` puts the six samples together.
 -- Assumes nothing.
-use borrow.Author.Rules.{rules}
 use Rattle.lines.proofs.Filtered.{strong_made}
 use Rattle.lines.proofs.strong.strong_line.Goals as goal
 

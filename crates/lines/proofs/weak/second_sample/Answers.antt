@@ -1,7 +1,6 @@
 -- `second_sample` meets its contract: `second_made` puts the callees' equations together.
 -- Assumes nothing.
 use mathlib.Core.Path.{refl}
-use borrow.Author.Rules.{rules}
 use Rattle.lines.proofs.Numbers.{second_made}
 use Rattle.lines.proofs.weak.second_sample.Goals as goal
 

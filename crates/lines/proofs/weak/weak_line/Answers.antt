@@ -1,6 +1,5 @@
 -- `weak_line` meets its contract: `weak_made` puts the four samples together; `weak_kept` is the line that stays.
 -- Assumes nothing.
-use borrow.Author.Rules.{rules}
 use native.Mathlib.Omega.{arith}
 use Rattle.lines.proofs.Filtered.{weak_made, weak_kept}
 use Rattle.lines.proofs.weak.weak_line.Goals as goal

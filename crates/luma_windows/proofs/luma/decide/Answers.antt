@@ -2,7 +2,6 @@
 -- Assumes nothing.
 use mathlib.Core.Path.{refl, ◌∙◌, ap, ap₂}
 use native.Mathlib.Omega.{arith}
-use borrow.Author.Rules.{rules}
 use Rattle.filter.specs.declared.LumaFilter.{LumaFilter}
 use Rattle.lines.specs.declared.Line.{Line}
 use Rattle.lines.specs.declared.LumaAnswer.{LumaAnswer}

@@ -1,7 +1,6 @@
 -- `horizontal_luma` meets its contract: the decision is the window's, the enum loses nothing of it, and its counts come
 -- with it.
 -- Assumes nothing.
-use borrow.Author.Rules.{rules}
 use Rattle.luma_windows.proofs.Decided.{window_answered}
 use Rattle.luma_windows.proofs.luma.horizontal_luma.Goals as goal
 

@@ -1,7 +1,6 @@
 -- `vertical_luma` meets its contract: the decision is the window's, its counts come with it, and lines that it leaves
 -- alone are as they were.
 -- Assumes nothing.
-use borrow.Author.Rules.{rules}
 use Rattle.luma_windows.proofs.Decided.{decided_as, none_decided, window_answered}
 use Rattle.luma_windows.proofs.luma.vertical_luma.Goals as goal
 

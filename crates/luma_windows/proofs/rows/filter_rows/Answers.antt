@@ -1,8 +1,6 @@
 -- `filter_rows` meets its contract: each arm knows the variant, reads the window's lines and lays down what it made
 -- of them.
 -- Assumes nothing.
-use mathlib.Core.Path.{refl}
-use borrow.Author.Rules.{rules}
 use Rattle.filter.specs.declared.LumaFilter.{LumaFilter}
 use Rattle.lines.specs.Luma.{strong_line, weak_line}
 use Rattle.luma_windows.proofs.Decided.{decided_as, each_laid, none_decided, strong_decided, weak_decided}

@@ -1,6 +1,5 @@
 -- `strong_lines` meets its contract, line by line.
 -- Assumes nothing.
-use borrow.Author.Rules.{rules}
 use Rattle.luma_windows.proofs.rows.strong_lines.Goals as goal
 
 pub returns : goal.returns

@@ -1,6 +1,5 @@
 -- `weak_lines` meets its contract, line by line.
 -- Assumes nothing.
-use borrow.Author.Rules.{rules}
 use Rattle.luma_windows.proofs.rows.weak_lines.Goals as goal
 
 pub returns : goal.returns

@@ -1,7 +1,6 @@
 -- `filter_turned` meets its contract: what is filtered in the turned window is the window filtered.
 -- Assumes nothing.
-use borrow.Author.Rules.{rules}
-use Rattle.luma_windows.proofs.Turn.{turned_decided, turned_strides}
+use Rattle.luma_windows.proofs.Turn.{turned_decided}
 use Rattle.luma_windows.proofs.turned.filter_turned.Goals as goal
 
 pub returns : goal.returns

@@ -1,12 +1,11 @@
 -- `turn_back` meets its contract. The loop's invariant: the first j lines are written, and the others are as they
 -- were.
 -- Assumes nothing.
-use Prim.Native.Nat.{ℕ, ◌+◌, ◌-◌, ◌*◌, ◌≤◌, ◌<◌}
+use Prim.Native.Nat.{ℕ, ◌+◌, ◌*◌, ◌≤◌, ◌<◌}
 use mathlib.Core.Path.{◌≡◌}
 use native.Mathlib.Omega.{arith}
 use lib.ListN.{length}
 use Rattle.picture.proofs.Index.{row_le}
-use Rattle.planes.specs.Window.{Filtered}
 use Rattle.planes.proofs.Windows.{filtered_none, filtered_more}
 use Rattle.luma_windows.specs.Decided.{shown}
 use Rattle.luma_windows.proofs.Turn.{shown_line}

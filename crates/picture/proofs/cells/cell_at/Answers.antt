@@ -2,7 +2,6 @@
 -- Assumes nothing.
 use native.Mathlib.Omega.{arith}
 use Rattle.picture.proofs.Records.{cell_made}
-use borrow.Author.Rules.{rules}
 use Rattle.picture.proofs.cells.cell_at.Goals as goal
 
 pub returns : goal.returns

@@ -1,6 +1,5 @@
 -- `luma_row` meets its contract: chroma rows are halved in format 1 alone.
 -- Assumes nothing.
-use borrow.Author.Rules.{rules}
 use Rattle.picture.proofs.Scale.{rows_halved, rows_whole}
 use Rattle.picture.proofs.rows.luma_row.Goals as goal
 

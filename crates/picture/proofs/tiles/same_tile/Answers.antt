@@ -4,7 +4,6 @@ use mathlib.Core.Path.{sym, ap, ap₂}
 use borrow.Author.Tests.{eq-eqb}
 use lib.Dec.{eqb}
 use Rattle.picture.specs.Tile.{tile_of}
-use borrow.Author.Rules.{rules}
 use Rattle.picture.proofs.tiles.same_tile.Goals as goal
 
 pub returns-then-p-q : goal.returns-then-p-q

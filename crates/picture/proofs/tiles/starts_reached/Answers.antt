@@ -1,12 +1,7 @@
 -- `starts_reached` meets its contract. The loop's invariant: the starts counted so far and those from i on make up
 -- the tile's number.
 -- Assumes nothing.
-use Prim.Native.Nat.{◌+◌, ◌-◌, ◌≤◌}
-use mathlib.Core.Path.{◌≡◌}
 use native.Mathlib.Omega.{arith}
-use borrow.Author.Rules.{rules}
-use lib.ListN.{length, drop}
-use Rattle.picture.specs.Tile.{tile_of}
 use Rattle.picture.proofs.Records.{start_reached, start_past, starts_none}
 use Rattle.picture.proofs.tiles.starts_reached.Goals as goal
 use Rattle.picture.proofs.tiles.starts_reached.Goals.{then-starts-i, else-starts-i}

@@ -3,12 +3,8 @@
 -- Assumes nothing.
 use Prim.Native.Nat.{◌+◌, ◌-◌, ◌≤◌}
 use mathlib.Core.Path.{◌≡◌}
-use mathlib.Core.Logic.{⊎_elim}
-use native.Mathlib.Omega.{arith}
-use borrow.Author.Rules.{rules}
 use lib.ListN.{length, drop}
 use Rattle.picture.specs.Tile.{tile_of}
-use Rattle.picture.proofs.Records.{start_reached, start_past, starts_none}
 use Rattle.picture.proofs.tiles.starts_reached.Given as goal
 
 abbrev pub invariant-loop-i : goal.invariant-loop-i

@@ -14,7 +14,8 @@ no-number-is false h = absurd (h tt)
 
 pub returns-then-x : goal.returns-then-x
 returns-then-x c =
-    let x = c.args.x in rw (no-number-is (is_nan x) (no_number x c.if-x.true)) refl
+    let x = c.args.x in
+    rw (no-number-is (is_nan x) (no_number x c.if-x.true)) refl
 
 pub float_to_bits-result : goal.float_to_bits-result
 float_to_bits-result c =
@@ -22,4 +23,4 @@ float_to_bits-result c =
 
 pub returns : goal.returns
 returns c =
-    let x = c.args.x in rw (is_false (is_nan x) (to_bits c)) refl
+    let x = c.args.x in rw (is_false (is_nan x) (is_number x c.if-x.false)) refl

@@ -11,10 +11,10 @@ returns c =
     λ i. record {
       part = record {
         x = c.word.ensures i;
-        c = c.word-2.ensures i;
-        c = c.word-3.ensures i;
-        c = c.word-4.ensures i;
+        y = c.word-2.ensures i;
+        width = c.word-3.ensures i;
+        height = c.word-4.ensures i;
       };
-      c = c.word-5.ensures i;
+      stride = c.word-5.ensures i;
       rows = c.word-6.ensures i;
     }

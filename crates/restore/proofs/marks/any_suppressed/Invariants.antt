@@ -1,10 +1,8 @@
 -- `any_suppressed` meets its contract. The loop's invariant: none of the cells passed is suppressed.
 -- Assumes nothing.
 use Prim.Native.Nat.{ℕ, ◌-◌, ◌≤◌, ◌<◌}
-use mathlib.Core.Path.{◌≡◌, sym, ◌∙◌}
-use mathlib.Core.Bool.{false, true≢false}
-use native.Mathlib.Omega.{arith}
-use borrow.Author.Count.{below_none, below_more}
+use mathlib.Core.Path.{◌≡◌}
+use mathlib.Core.Bool.{false}
 use Rattle.picture.specs.Cell.{suppressed, cell_at}
 use Rattle.restore.proofs.marks.any_suppressed.Given as goal
 

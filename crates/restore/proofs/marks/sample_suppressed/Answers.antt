@@ -1,7 +1,6 @@
 -- `sample_suppressed` meets its contract: what `is_suppressed` says of the record that `cell_at` reads.
 -- Assumes nothing.
 use mathlib.Core.Path.{◌∙◌, ap}
-use borrow.Author.Rules.{rules}
 use Rattle.picture.specs.Cell.{suppressed}
 use Rattle.restore.proofs.marks.sample_suppressed.Goals as goal
 

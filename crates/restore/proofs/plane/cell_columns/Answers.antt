@@ -2,7 +2,6 @@
 -- Assumes nothing.
 use mathlib.Core.Path.{sym, ap, ◌∙◌}
 use mathlib.Core.Bool.{Bool, cond}
-use borrow.Author.Rules.{rules}
 use Rattle.picture.specs.Scale.{whole, chroma_across, from_luma}
 use Rattle.restore.proofs.plane.cell_columns.Goals as goal
 

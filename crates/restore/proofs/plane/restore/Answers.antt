@@ -1,6 +1,5 @@
 -- `restore` meets its contract: row by row where a cell is suppressed; else the plane is restored as it is.
 -- Assumes nothing.
-use borrow.Author.Rules.{rules}
 use Rattle.restore.proofs.Restored.{restored_already}
 use Rattle.restore.proofs.plane.restore.Goals as goal
 

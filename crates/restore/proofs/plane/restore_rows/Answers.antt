@@ -1,14 +1,13 @@
 -- `restore_rows` meets its contract. The loop's invariant: the rows before y are done.
 -- Assumes nothing.
-use Prim.Native.Nat.{◌+◌, ◌-◌, ◌*◌, ◌≤◌}
+use Prim.Native.Nat.{◌+◌, ◌*◌, ◌≤◌}
 use mathlib.Core.Path.{◌≡◌, refl, ap, ◌∙◌}
 use native.Mathlib.Omega.{arith}
-use borrow.Author.Rules.{rules}
 use lib.ListN.{length}
 use Rattle.picture.specs.Plane.{Plane, at}
-use Rattle.picture.specs.Scale.{to_luma, cell_of, from_luma}
-use Rattle.planes.proofs.Bands.{DoneTo, plane_none, plane_more, plane_all}
-use Rattle.segments.specs.Sides.{across_for, down_for}
+use Rattle.picture.specs.Scale.{to_luma, cell_of}
+use Rattle.planes.proofs.Bands.{plane_none, plane_more, plane_all}
+use Rattle.segments.specs.Sides.{down_for}
 use Rattle.restore.specs.Restored.{restored_for}
 use Rattle.restore.proofs.PlaneRows.{row_end, line_lent, line_row}
 use Rattle.restore.proofs.Restored.{restored_local}

@@ -1,11 +1,9 @@
 -- `restore_line` meets its contract. The loop's invariant: the cells before column gx are done.
 -- Assumes nothing.
-use Prim.Native.Nat.{◌+◌, ◌-◌, ◌*◌, ◌≤◌}
-use mathlib.Core.Path.{◌≡◌, refl, ◌∙◌}
-use native.Mathlib.Omega.{arith}
+use Prim.Native.Nat.{◌-◌, ◌*◌, ◌≤◌}
+use mathlib.Core.Path.{◌≡◌}
 use lib.ListN.{length}
-use Rattle.picture.proofs.Index.{row_step}
-use Rattle.restore.proofs.CellRows.{LineDone, line_none, line_more, line_all}
+use Rattle.restore.proofs.CellRows.{LineDone}
 use Rattle.restore.proofs.rows.restore_line.Given as goal
 
 abbrev pub invariant-loop-gx : goal.invariant-loop-gx

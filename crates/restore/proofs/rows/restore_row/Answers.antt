@@ -3,7 +3,6 @@
 -- Assumes nothing.
 use mathlib.Core.Path.{◌≡◌}
 use native.Mathlib.Omega.{arith}
-use borrow.Author.Rules.{rules}
 use lib.ListN.{length, length-set}
 use Rattle.restore.proofs.CellRows.{row_length, row_at, row_stored, row_left}
 use Rattle.restore.proofs.rows.restore_row.Goals as goal

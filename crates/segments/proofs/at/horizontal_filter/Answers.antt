@@ -5,7 +5,6 @@ use Prim.Native.Nat.{◌+◌}
 use mathlib.Core.Path.{◌≡◌, ap, ap₂, ◌∙◌}
 use mathlib.Core.Bool.{true}
 use native.Mathlib.Omega.{arith}
-use borrow.Author.Rules.{rules}
 use Rattle.filter.specs.Segment.{horizontal, edge_flag, Position}
 use Rattle.picture.specs.declared.Cell.{Cell}
 use Rattle.segments.specs.Listed.{Listed}

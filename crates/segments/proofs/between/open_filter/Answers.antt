@@ -1,7 +1,6 @@
 -- `open_filter` meets its contract: the filter is the component's, and tc 0 gives none.
 -- Assumes nothing.
 use mathlib.Core.Path.{◌≡◌, ◌∙◌, ap}
-use borrow.Author.Rules.{rules}
 use Rattle.filter.specs.Kernel as Case
 use Rattle.segments.specs.Between.{filter_for, positive}
 use Rattle.segments.proofs.Gates.{

@@ -2,8 +2,6 @@
 -- Assumes nothing.
 use mathlib.Core.Path.{sym, ◌∙◌}
 use native.Mathlib.Omega.{arith}
-use borrow.Author.Rules.{rules}
-use Rattle.segments.specs.Between.{least_for}
 use Rattle.segments.proofs.Gates.{closed_bs, closed_tile, closed_slices, opened, least_some, open_in_range}
 use Rattle.segments.proofs.between.segment_filter.Goals as goal
 

@@ -2,7 +2,6 @@
 -- Assumes nothing.
 use mathlib.Core.Path.{◌∙◌, ap}
 use native.Mathlib.Omega.{arith}
-use borrow.Author.Rules.{rules}
 use Rattle.picture.specs.Cell.{cell_at, cell_number}
 use Rattle.segments.proofs.Positions.{number_is}
 use Rattle.segments.proofs.neighbours.cell_of.Goals as goal

@@ -1,7 +1,6 @@
 -- `flags_at` meets its contract: they are the cell's.
 -- Assumes nothing.
 use mathlib.Core.Path.{ap}
-use borrow.Author.Rules.{rules}
 use Rattle.picture.specs.declared.Cell.{Cell}
 use Rattle.segments.proofs.neighbours.flags_at.Goals as goal
 

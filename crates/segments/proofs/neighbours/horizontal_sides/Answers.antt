@@ -1,6 +1,5 @@
 -- `horizontal_sides` meets its contract: `sides_made` puts the lookups together.
 -- Assumes nothing.
-use borrow.Author.Rules.{rules}
 use Rattle.filter.specs.Segment.{horizontal}
 use Rattle.segments.proofs.Looks.{sides_made, listed_above}
 use Rattle.segments.proofs.neighbours.horizontal_sides.Goals as goal

@@ -1,6 +1,5 @@
 -- `vertical_sides` meets its contract: `sides_made` puts the lookups together.
 -- Assumes nothing.
-use borrow.Author.Rules.{rules}
 use Rattle.filter.specs.Segment.{vertical}
 use Rattle.segments.proofs.Looks.{sides_made}
 use Rattle.segments.proofs.neighbours.vertical_sides.Goals as goal

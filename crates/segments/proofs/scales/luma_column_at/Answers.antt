@@ -1,6 +1,5 @@
 -- `luma_column_at` meets its contract: luma is whole, and chroma goes by its format.
 -- Assumes nothing.
-use borrow.Author.Rules.{rules}
 use Rattle.segments.proofs.Positions.{across_chroma}
 use Rattle.segments.proofs.scales.luma_column_at.Goals as goal
 

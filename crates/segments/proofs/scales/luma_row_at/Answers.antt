@@ -1,6 +1,5 @@
 -- `luma_row_at` meets its contract: luma is whole, and chroma goes by its format.
 -- Assumes nothing.
-use borrow.Author.Rules.{rules}
 use Rattle.segments.proofs.Positions.{down_chroma}
 use Rattle.segments.proofs.scales.luma_row_at.Goals as goal
 

@@ -1,6 +1,5 @@
 -- `chroma_frame` meets its contract: its parts are those of the definition.
 -- Assumes nothing.
-use borrow.Author.Rules.{rules}
 use mathlib.Core.Path.{ap, ◌∙◌}
 use Rattle.picture.specs.Scale.{chroma_down, from_luma}
 use Rattle.stage.proofs.Steps.{power, frame_made}

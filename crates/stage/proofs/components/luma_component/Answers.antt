@@ -3,7 +3,6 @@
 use Prim.Native.Nat.{ℕ}
 use mathlib.Core.Path.{ap}
 use mathlib.Core.Bool.{true}
-use borrow.Author.Rules.{rules}
 use Rattle.filter.specs.declared.Component.{Component}
 use Rattle.stage.proofs.components.luma_component.Goals as goal
 

@@ -1,6 +1,5 @@
 -- `luma_frame` meets its contract: its parts are those of the definition.
 -- Assumes nothing.
-use borrow.Author.Rules.{rules}
 use Rattle.stage.proofs.Steps.{power, frame_made}
 use mathlib.Core.Path.{refl}
 use Rattle.stage.proofs.components.luma_frame.Goals as goal

@@ -2,7 +2,6 @@
 -- picture is finished.
 -- Assumes nothing.
 use mathlib.Core.Path.{◌≡◌}
-use borrow.Author.Rules.{rules}
 use Rattle.ledger.specs.Numbered.{numbered}
 use Rattle.ledger.proofs.Refusals.{refuses}
 use Rattle.picture.specs.Causes.{verdict}

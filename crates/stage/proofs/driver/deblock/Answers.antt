@@ -2,12 +2,12 @@
 -- definition's.
 -- Assumes nothing.
 use Prim.Native.Nat.{◌<◌}
-use mathlib.Core.Path.{◌≡◌, sym, ◌∙◌}
+use mathlib.Core.Path.{◌∙◌}
 use mir.Facts.{to_z-of_z}
 use mir.Syntax.{w32}
 use mir.Val.{SFits}
 use native.Mathlib.Omega.{arith}
-use borrow.Author.Rules.{rules, sfits_of}
+use borrow.Author.Rules.{rules}
 use Rattle.picture.specs.Given.{planes_of}
 use Rattle.picture.specs.Lent.{picture_given}
 use Rattle.picture.specs.Picture.{Picture, Planes}

@@ -1,12 +1,8 @@
 -- `copy_samples` meets its contract. The loop's invariant: the first i samples are copied.
 -- Assumes nothing.
 use Prim.Native.Nat.{◌-◌, ◌≤◌}
-use mathlib.Core.Path.{◌≡◌, sym, ◌∙◌}
-use native.Mathlib.Omega.{arith}
-use borrow.Author.Rules.{rules}
-use lib.ListN.{length, take, length-set}
-use lib.Seq.{take_all}
-use Rattle.stage.proofs.Steps.{copied_more}
+use mathlib.Core.Path.{◌≡◌}
+use lib.ListN.{length, take}
 use Rattle.stage.proofs.plane.copy_samples.Given as goal
 
 abbrev pub invariant-loop-i : goal.invariant-loop-i

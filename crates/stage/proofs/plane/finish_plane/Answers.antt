@@ -2,7 +2,6 @@
 -- Assumes nothing.
 use mathlib.Core.Path.{◌∙◌}
 use native.Mathlib.Nat.{mul_comm}
-use borrow.Author.Rules.{rules}
 use Rattle.stage.proofs.Steps.{lent_again, chain}
 use Rattle.stage.proofs.plane.finish_plane.Goals as goal
 

@@ -1,6 +1,5 @@
 -- `pass` meets its contract: that of the direction given.
 -- Assumes nothing.
-use borrow.Author.Rules.{rules}
 use Rattle.stage.proofs.Steps.{passed_as}
 use Rattle.stage.proofs.plane.pass.Goals as goal
 

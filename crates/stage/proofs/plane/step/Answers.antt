@@ -1,7 +1,5 @@
 -- `step` meets its contract: the plane that the pass leaves, restored.
 -- Assumes nothing.
-use mathlib.Core.Path.{◌∙◌}
-use borrow.Author.Rules.{rules}
 use Rattle.stage.specs.Plane.{direction_of}
 use Rattle.stage.proofs.Steps.{lent_again, stepped}
 use Rattle.stage.proofs.plane.step.Goals as goal

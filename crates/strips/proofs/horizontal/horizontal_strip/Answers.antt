@@ -1,14 +1,9 @@
 -- `horizontal_strip` meets its contract. The loop's invariant: the segments before column x are done.
 -- Assumes nothing.
-use Prim.Native.Nat.{◌+◌, ◌-◌, ◌%◌, ◌≤◌}
-use mathlib.Core.Path.{◌≡◌, refl, ◌∙◌}
+use mathlib.Core.Path.{refl, ◌∙◌}
 use native.Mathlib.Omega.{arith}
-use lib.ListN.{length}
 use Rattle.filter.specs.Kernel.{kernel}
-use Rattle.filter.specs.Segment.{horizontal}
-use Rattle.planes.specs.Rows.{seen}
-use Rattle.planes.proofs.Strips.{Segments, segments_none, segments_more, segments_all}
-use Rattle.segments.specs.Sides.{segment_for}
+use Rattle.planes.proofs.Strips.{segments_none, segments_more, segments_all}
 use Rattle.strips.proofs.horizontal.horizontal_strip.Goals as goal
 
 pub loop-x-init : goal.loop-x-init

@@ -1,13 +1,12 @@
 -- `horizontal_strip` meets its contract. The loop's invariant: the segments before column x are done.
 -- Assumes nothing.
-use Prim.Native.Nat.{◌+◌, ◌-◌, ◌%◌, ◌≤◌}
-use mathlib.Core.Path.{◌≡◌, refl, ◌∙◌}
-use native.Mathlib.Omega.{arith}
+use Prim.Native.Nat.{◌-◌, ◌%◌}
+use mathlib.Core.Path.{◌≡◌}
 use lib.ListN.{length}
 use Rattle.filter.specs.Kernel.{kernel}
 use Rattle.filter.specs.Segment.{horizontal}
 use Rattle.planes.specs.Rows.{seen}
-use Rattle.planes.proofs.Strips.{Segments, segments_none, segments_more, segments_all}
+use Rattle.planes.proofs.Strips.{Segments}
 use Rattle.segments.specs.Sides.{segment_for}
 use Rattle.strips.proofs.horizontal.horizontal_strip.Given as goal
 

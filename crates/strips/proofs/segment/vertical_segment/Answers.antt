@@ -4,7 +4,6 @@
 use Prim.Native.Nat.{◌+◌}
 use mathlib.Core.Path.{refl, sym, ◌∙◌}
 use native.Mathlib.Omega.{arith}
-use borrow.Author.Rules.{rules}
 use Rattle.filter.specs.Segment.{vertical}
 use Rattle.planes.proofs.Strips.{apart_columns}
 use Rattle.segments.proofs.Looks.{segment_none}

@@ -1,14 +1,9 @@
 -- `vertical_strip` meets its contract. The loop's invariant: the edges before column e are done.
 -- Assumes nothing.
-use Prim.Native.Nat.{◌+◌, ◌-◌, ◌%◌, ◌≤◌}
-use mathlib.Core.Path.{◌≡◌, refl, ◌∙◌}
+use mathlib.Core.Path.{refl, ◌∙◌}
 use native.Mathlib.Omega.{arith}
-use lib.ListN.{length}
 use Rattle.filter.specs.Kernel.{kernel}
-use Rattle.filter.specs.Segment.{vertical}
-use Rattle.planes.specs.Rows.{seen}
-use Rattle.planes.proofs.Strips.{Columns, columns_none, columns_more, columns_all}
-use Rattle.segments.specs.Sides.{segment_for}
+use Rattle.planes.proofs.Strips.{columns_none, columns_more, columns_all}
 use Rattle.strips.proofs.vertical.vertical_strip.Goals as goal
 
 pub loop-e-init : goal.loop-e-init

@@ -1,13 +1,12 @@
 -- `vertical_strip` meets its contract. The loop's invariant: the edges before column e are done.
 -- Assumes nothing.
-use Prim.Native.Nat.{◌+◌, ◌-◌, ◌%◌, ◌≤◌}
-use mathlib.Core.Path.{◌≡◌, refl, ◌∙◌}
-use native.Mathlib.Omega.{arith}
+use Prim.Native.Nat.{◌-◌, ◌%◌, ◌≤◌}
+use mathlib.Core.Path.{◌≡◌}
 use lib.ListN.{length}
 use Rattle.filter.specs.Kernel.{kernel}
 use Rattle.filter.specs.Segment.{vertical}
 use Rattle.planes.specs.Rows.{seen}
-use Rattle.planes.proofs.Strips.{Columns, columns_none, columns_more, columns_all}
+use Rattle.planes.proofs.Strips.{Columns}
 use Rattle.segments.specs.Sides.{segment_for}
 use Rattle.strips.proofs.vertical.vertical_strip.Given as goal
 

@@ -1,7 +1,6 @@
 -- `chroma_tc` meets its contract: `chroma_made` puts the chroma QP, the clipped index, its row and the scale together.
 -- Assumes nothing.
 use Rattle.thresholds.proofs.Facts.{chroma_made}
-use borrow.Author.Rules.{rules}
 use Rattle.thresholds.proofs.chroma.chroma_tc.Goals as goal
 
 pub returns : goal.returns

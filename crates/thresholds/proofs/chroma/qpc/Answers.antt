@@ -2,7 +2,6 @@
 -- Assumes nothing.
 use native.Mathlib.Omega.{arith}
 use Rattle.thresholds.proofs.Facts.{qpc_table, qpc_other}
-use borrow.Author.Rules.{rules}
 use Rattle.thresholds.proofs.chroma.qpc.Goals as goal
 
 pub returns-then-format-eq1-clause-value : goal.returns-then-format-eq1-clause-value

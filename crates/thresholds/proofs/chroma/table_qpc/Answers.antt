@@ -1,8 +1,6 @@
 -- `table_qpc` meets its contract, by the three ranges of table 8-10.
 -- Assumes nothing.
-use native.Mathlib.Omega.{arith}
 use Rattle.thresholds.proofs.Facts.{table_low, table_high, table_row}
-use borrow.Author.Rules.{rules}
 use Rattle.thresholds.proofs.chroma.table_qpc.Goals as goal
 
 pub returns-then-index-lt106-clause-value : goal.returns-then-index-lt106-clause-value

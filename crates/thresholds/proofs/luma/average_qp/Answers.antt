@@ -1,7 +1,6 @@
 -- `average_qp` meets its contract: `average_is` says which average the mean of two bytes stands for.
 -- Assumes nothing.
 use Rattle.thresholds.proofs.Facts.{average_is}
-use borrow.Author.Rules.{rules}
 use Rattle.thresholds.proofs.luma.average_qp.Goals as goal
 
 pub returns : goal.returns

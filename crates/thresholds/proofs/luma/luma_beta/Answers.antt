@@ -1,7 +1,6 @@
 -- `luma_beta` meets its contract: `beta_made` puts the clipped index, its row and the scaling together.
 -- Assumes nothing.
 use Rattle.thresholds.proofs.Facts.{beta_made}
-use borrow.Author.Rules.{rules}
 use Rattle.thresholds.proofs.luma.luma_beta.Goals as goal
 
 pub returns : goal.returns

@@ -3,7 +3,6 @@
 use mathlib.Core.Path.{refl}
 use native.Mathlib.Nat.{lt_of_le_of_lt}
 use native.Mathlib.Omega.{arith}
-use borrow.Author.Rules.{rules}
 use Rattle.thresholds.proofs.LumaTable.{table_small, looked_up, below_0}
 use Rattle.thresholds.proofs.luma.luma_tc.Goals as goal
 

@@ -1,8 +1,6 @@
 -- `beta_row` meets its contract: the three formulas give the table, and none of them is above 64.
 -- Assumes nothing.
-use native.Mathlib.Omega.{arith}
 use Rattle.thresholds.proofs.Rows.{beta_low, beta_mid, beta_high}
-use borrow.Author.Rules.{rules}
 use Rattle.thresholds.proofs.tables.beta_row.Goals as goal
 
 pub returns-then-q-lt16-clause-value : goal.returns-then-q-lt16-clause-value

@@ -1,8 +1,6 @@
 -- `qpc_row` meets its contract: the two formulas give the table, and neither is above 29 more than the row's number.
 -- Assumes nothing.
-use native.Mathlib.Omega.{arith}
 use Rattle.thresholds.proofs.Rows.{qpc_low, qpc_high}
-use borrow.Author.Rules.{rules}
 use Rattle.thresholds.proofs.tables.qpc_row.Goals as goal
 
 pub returns-then-q-lt4-clause-value : goal.returns-then-q-lt4-clause-value

@@ -4,7 +4,6 @@ use native.Mathlib.Nat.{mod-eq_of_lt}
 use native.Mathlib.Omega.{arith}
 use Rattle.thresholds.specs.Luma.{scaled}
 use Rattle.thresholds.proofs.Facts.{scaled_small}
-use borrow.Author.Rules.{rules}
 use Rattle.thresholds.proofs.tables.scale.Goals as goal
 
 pub returns : goal.returns

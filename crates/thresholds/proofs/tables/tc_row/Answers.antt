@@ -1,7 +1,6 @@
 -- `tc_row` meets its contract: `tc_made` takes the row out of its word, and no row is above 24, and so none above 64.
 -- Assumes nothing.
 use native.Mathlib.Omega.{arith}
-use borrow.Author.Rules.{rules}
 use Rattle.thresholds.proofs.Rows.{tc_made, rows_most}
 use Rattle.thresholds.proofs.tables.tc_row.Goals as goal
 

@@ -1,7 +1,6 @@
 -- `compare_cut` meets its contract: the cut, what the stage leaves of it, and the count; the lists hold the first two.
 -- Assumes nothing.
 use native.Mathlib.Omega.{arith}
-use borrow.Author.Rules.{rules}
 use Rattle.picture.specs.Given.{planes_of}
 use Rattle.tile_parts.specs.Parts.{part_of}
 use Rattle.tile_check.proofs.Filtered.{sized_again, counted_cut, filtered_cut}

@@ -2,7 +2,6 @@
 -- Assumes nothing.
 use mathlib.Core.Path.{◌∙◌}
 use mathlib.Core.List.{[], ◌∷◌, ◌++◌}
-use borrow.Author.Rules.{rules}
 use Rattle.checks.specs.Lengths.{plane_tests}
 use Rattle.checks.proofs.Tests.{any_both, one_test}
 use Rattle.picture.specs.Causes.{bad_cells}

@@ -3,7 +3,6 @@
 -- Assumes nothing.
 use mathlib.Core.Path.{◌∙◌}
 use native.Mathlib.Omega.{arith}
-use borrow.Author.Rules.{rules}
 use Rattle.ledger.proofs.Refusals.{refuses}
 use Rattle.picture.specs.Given.{planes_of}
 use Rattle.picture.specs.Lent.{picture_given}

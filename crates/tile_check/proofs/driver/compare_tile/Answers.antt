@@ -1,8 +1,6 @@
 -- `compare_tile` meets its contract: no such tile, a list of another length, or the count; and what the lists hold
 -- after it.
 -- Assumes nothing.
-use native.Mathlib.Omega.{arith}
-use borrow.Author.Rules.{rules}
 use Rattle.picture.specs.Given.{planes_of}
 use Rattle.picture.specs.Lent.{picture_given}
 use Rattle.picture.specs.Picture.{Picture, Planes}

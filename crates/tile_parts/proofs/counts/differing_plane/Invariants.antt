@@ -1,11 +1,9 @@
 -- `differing_plane` meets its contract. The loop's invariant: n samples of the first y rows differ.
 -- Assumes nothing.
-use Prim.Native.Nat.{◌+◌, ◌-◌, ◌*◌, ◌≤◌}
-use mathlib.Core.Path.{◌≡◌, refl}
-use native.Mathlib.Omega.{arith}
-use Rattle.picture.proofs.Index.{row_step, row_le}
-use Rattle.tile_parts.specs.Parts.{RowRoom, part_of}
-use Rattle.tile_parts.proofs.Counted.{rows_to, rows_more, rows_all, row_few, own_row, out_row, cut_small}
+use Prim.Native.Nat.{◌-◌, ◌*◌, ◌≤◌}
+use mathlib.Core.Path.{◌≡◌}
+use Rattle.tile_parts.specs.Parts.{part_of}
+use Rattle.tile_parts.proofs.Counted.{rows_to}
 use Rattle.tile_parts.proofs.counts.differing_plane.Given as goal
 
 abbrev pub invariant-loop-y : goal.invariant-loop-y

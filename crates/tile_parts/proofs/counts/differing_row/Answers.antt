@@ -1,11 +1,8 @@
 -- `differing_row` meets its contract. The loop's invariant: n of the first x samples differ.
 -- Assumes nothing.
-use Prim.Native.Nat.{◌-◌, ◌≤◌}
-use mathlib.Core.Path.{◌≡◌, refl, ◌∙◌}
-use mathlib.Core.Logic.{⊎_elim}
+use mathlib.Core.Path.{refl, ◌∙◌}
 use native.Mathlib.Omega.{arith}
-use borrow.Author.Rules.{rules}
-use Rattle.tile_parts.proofs.Counted.{row_to, row_same, row_differs, row_is}
+use Rattle.tile_parts.proofs.Counted.{row_same, row_differs, row_is}
 use Rattle.tile_parts.proofs.counts.differing_row.Goals as goal
 use Rattle.tile_parts.proofs.counts.differing_row.Goals.{then-cut-own, else-cut-own}
 

@@ -1,12 +1,12 @@
 -- `crop_u8` meets its contract. The loop's invariant: the first k bytes are copied.
 -- Assumes nothing.
-use Prim.Native.Nat.{◌-◌, ◌≤◌, ◌<◌}
-use mathlib.Core.Path.{◌≡◌, refl, ◌∙◌}
+use Prim.Native.Nat.{◌<◌}
+use mathlib.Core.Path.{refl, ◌∙◌}
 use native.Mathlib.Omega.{arith}
 use borrow.Author.Count.{below_none}
 use lib.ListN.{length, length-set}
 use Rattle.tile_parts.specs.Parts.{SampleOf, part_of}
-use Rattle.tile_parts.proofs.Cropped.{Copied, copied_all, copied_more, place_in, sample_of_lem}
+use Rattle.tile_parts.proofs.Cropped.{copied_all, copied_more, place_in, sample_of_lem}
 use Rattle.tile_parts.proofs.crops.crop_u8.Goals as goal
 use Rattle.tile_parts.proofs.crops.crop_u8.Goals.{In-loop-k, After-place_of-byte}
 

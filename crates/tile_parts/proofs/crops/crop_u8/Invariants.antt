@@ -1,12 +1,10 @@
 -- `crop_u8` meets its contract. The loop's invariant: the first k bytes are copied.
 -- Assumes nothing.
-use Prim.Native.Nat.{◌-◌, ◌≤◌, ◌<◌}
-use mathlib.Core.Path.{◌≡◌, refl, ◌∙◌}
-use native.Mathlib.Omega.{arith}
-use borrow.Author.Count.{below_none}
-use lib.ListN.{length, length-set}
-use Rattle.tile_parts.specs.Parts.{SampleOf, part_of}
-use Rattle.tile_parts.proofs.Cropped.{Copied, copied_all, copied_more, place_in, sample_of_lem}
+use Prim.Native.Nat.{◌-◌, ◌≤◌}
+use mathlib.Core.Path.{◌≡◌}
+use lib.ListN.{length}
+use Rattle.tile_parts.specs.Parts.{part_of}
+use Rattle.tile_parts.proofs.Cropped.{Copied}
 use Rattle.tile_parts.proofs.crops.crop_u8.Given as goal
 
 abbrev pub invariant-loop-k : goal.invariant-loop-k

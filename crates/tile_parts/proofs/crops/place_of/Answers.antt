@@ -1,7 +1,6 @@
 -- `place_of` meets its contract: the part's sizes keep the place in 64 bits.
 -- Assumes nothing.
 use native.Mathlib.Omega.{arith}
-use borrow.Author.Rules.{rules}
 use Rattle.tile_parts.proofs.Cropped.{placed}
 use Rattle.tile_parts.proofs.crops.place_of.Goals as goal
 

@@ -1,7 +1,6 @@
 -- `differing_samples` meets its contract: the three counts.
 -- Assumes nothing.
 use mathlib.Core.Path.{◌∙◌}
-use borrow.Author.Rules.{rules}
 use Rattle.tile_parts.proofs.Same.{room_as, long_as, differing_as, add3}
 use Rattle.tile_parts.proofs.cuts.differing_samples.Goals as goal
 

@@ -2,7 +2,6 @@
 -- Assumes nothing.
 use mathlib.Core.Path.{◌∙◌}
 use native.Mathlib.Omega.{arith}
-use borrow.Author.Rules.{rules}
 use Rattle.tile_parts.proofs.Same.{room_as, long_as, crop_as, planes_as}
 use Rattle.tile_parts.proofs.cuts.make_cut.Goals as goal
 

@@ -1,6 +1,5 @@
 -- `cell_part` meets its contract, number by number.
 -- Assumes nothing.
-use borrow.Author.Rules.{rules}
 use Rattle.tile_parts.proofs.Tiles.{part_same}
 use Rattle.tile_parts.proofs.parts.cell_part.Goals as goal
 

@@ -1,6 +1,5 @@
 -- `chroma_part` meets its contract, number by number.
 -- Assumes nothing.
-use borrow.Author.Rules.{rules}
 use Rattle.tile_parts.proofs.Tiles.{part_same}
 use Rattle.tile_parts.proofs.parts.chroma_part.Goals as goal
 

@@ -1,7 +1,6 @@
 -- `first_of_ctb` meets its contract: the shift does not wrap.
 -- Assumes nothing.
 use native.Mathlib.Omega.{arith}
-use borrow.Author.Rules.{rules}
 use Rattle.tile_parts.proofs.Tiles.{ctb_shifted}
 use Rattle.tile_parts.proofs.parts.first_of_ctb.Goals as goal
 

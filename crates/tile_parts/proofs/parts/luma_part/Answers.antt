@@ -1,6 +1,5 @@
 -- `luma_part` meets its contract: the tile's first samples and its spans.
 -- Assumes nothing.
-use borrow.Author.Rules.{rules}
 use Rattle.tile_parts.proofs.Tiles.{part_same}
 use Rattle.tile_parts.proofs.parts.luma_part.Goals as goal
 

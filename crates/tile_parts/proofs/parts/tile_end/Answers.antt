@@ -2,7 +2,6 @@
 -- Assumes nothing.
 use Prim.Native.Nat.{◌^◌}
 use native.Mathlib.Omega.{arith}
-use borrow.Author.Rules.{rules}
 use Rattle.tile_parts.proofs.Tiles.{end_next, end_last}
 use Rattle.tile_parts.proofs.parts.tile_end.Goals as goal
 

@@ -1,17 +1,12 @@
 -- `tinladle_pixel` meets its contract, by what the pixel is answered with.
 -- Assumes nothing.
-use Prim.Native.Nat.{ℕ}
-use mathlib.Core.List.{List, [], ◌∷◌, ◌++◌}
-use mathlib.Core.Path.{◌≡◌, refl, subst}
-use borrow.Author.Rules.{rules}
+use mathlib.Core.List.{List, [], ◌∷◌}
+use mathlib.Core.Path.{refl, subst}
 use lib.Ieee.{Float}
-use lib.ListN.{drop, length}
 use Rattle.picture.specs.declared.Settings as Code
 use Rattle.picture.specs.Given.{of_planes, planes_of}
 use Rattle.picture.specs.Picture.{Picture}
-use Rattle.recogniser.specs.declared.Pixel.{Pixel}
-use Rattle.recogniser.specs.Pixel.{Answered, floats_of, pixel_answer, verdict_of}
-use Rattle.tinladle.specs.Floats.{PixelStored}
+use Rattle.recogniser.specs.Pixel.{Answered, pixel_answer}
 use Rattle.tinladle.specs.Passed.{passed_planes}
 use Rattle.tinladle.proofs.Answered.{pixel_by}
 use Rattle.tinladle.proofs.pixels.tinladle_pixel.Goals as goal

@@ -1,7 +1,6 @@
 -- `tinladle_sample` meets its contract, by what the float is answered with.
 -- Assumes nothing.
 use mathlib.Core.Path.{refl}
-use borrow.Author.Rules.{rules}
 use Rattle.tinladle.proofs.Answered.{sample_by}
 use Rattle.tinladle.proofs.recovered.tinladle_sample.Goals as goal
 

@@ -3,7 +3,6 @@
 use Prim.Native.Nat.{ℕ}
 use mathlib.Core.List.{List, [], ◌∷◌}
 use mathlib.Core.Path.{◌≡◌, refl, sym, ap, ◌∙◌}
-use borrow.Author.Rules.{rules}
 use Rattle.checksum.specs.Answer.{answer_of, checksum_answer}
 use Rattle.picture.specs.declared.Settings as Code
 use Rattle.picture.specs.Given.{of_planes, planes_of}

@@ -3,7 +3,6 @@
 use native.Mathlib.Omega.{arith}
 use lib.ListN.{length-set}
 use Rattle.window_lines.proofs.InList.{put_eight}
-use borrow.Author.Rules.{rules}
 use Rattle.window_lines.proofs.line.put_line.Goals as goal
 
 pub bounds-s-at-2 : goal.bounds-s-at-2

@@ -1,6 +1,5 @@
 -- `take_lines` meets its contract: each line is the window's.
 -- Assumes nothing.
-use borrow.Author.Rules.{rules}
 use Rattle.window_lines.proofs.InList.{lines_read}
 use Rattle.window_lines.proofs.line.take_lines.Goals as goal
 

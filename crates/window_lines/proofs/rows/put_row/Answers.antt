@@ -3,7 +3,6 @@
 use native.Mathlib.Omega.{arith}
 use lib.ListN.{length-set}
 use Rattle.window_lines.proofs.Beside.{put_four}
-use borrow.Author.Rules.{rules}
 use Rattle.window_lines.proofs.rows.put_row.Goals as goal
 
 pub bounds-s-at-2 : goal.bounds-s-at-2

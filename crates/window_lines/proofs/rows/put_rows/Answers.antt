@@ -1,9 +1,6 @@
 -- `put_rows` meets its contract: each row lies in the list, which stays as long as it was, and the eight rows are the
 -- window.
 -- Assumes nothing.
-use mathlib.Core.Path.{◌≡◌, ◌∙◌}
-use native.Mathlib.Omega.{arith}
-use lib.ListN.{length}
 use Rattle.window_lines.proofs.Beside.{rows_put}
 use Rattle.window_lines.proofs.rows.put_rows.Goals as goal
 

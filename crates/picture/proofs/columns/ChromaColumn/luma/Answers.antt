@@ -1,7 +1,6 @@
 -- `ChromaColumn::luma` meets its contract, by the three kinds of chroma format.
 -- Assumes nothing.
 use borrow.Author.Tests.{eq-eqb, ne_eqb}
-use borrow.Author.Rules.{rules}
 use Rattle.picture.proofs.columns.ChromaColumn.luma.Goals as goal
 
 pub returns-then-format-eq0 : goal.returns-then-format-eq0
