@@ -23,8 +23,8 @@ use Rattle.bounded_moves.proofs.Lines.{ChromaMoved, chroma_moves}
 
 -- of eight samples none is above the largest, and past them there is 0
 column_range : {largest : ℕ} (l : List ℕ) → length l ≡ 8 → get_or l 0 0 ≤ largest → get_or l 1 0 ≤ largest
-    → get_or l 2 0 ≤ largest → get_or l 3 0 ≤ largest → get_or l 4 0 ≤ largest → get_or l 5 0 ≤ largest → get_or l 6 0 ≤ largest
-    → get_or l 7 0 ≤ largest → (i : ℕ) → get_or l i 0 ≤ largest
+    → get_or l 2 0 ≤ largest → get_or l 3 0 ≤ largest → get_or l 4 0 ≤ largest → get_or l 5 0 ≤ largest
+    → get_or l 6 0 ≤ largest → get_or l 7 0 ≤ largest → (i : ℕ) → get_or l i 0 ≤ largest
 column_range l e h0 h1 h2 h3 h4 h5 h6 h7 i = ⊎_elim
     (cases8 (λ i. get_or l i 0 ≤ _) h0 h1 h2 h3 h4 h5 h6 h7 i)
     (λ (past : 8 ≤ i). omega (arith, get_or-eq_default l 0 {n = i} (omega (arith, e))))
@@ -53,7 +53,8 @@ module _ (β tc largest : ℕ) (W : Plane) where
   unfolding kernel luma_line
   strong e j = rw e (strong_moves tc (line_of W j))
 
-  weak : (decided β tc W).d_e ≡ 1 → InRange largest W → (j : ℕ) → MovedAtMost (weak_most tc) (line_of W j) (line_of after j)
+  weak : (decided β tc W).d_e ≡ 1 → InRange largest W → (j : ℕ)
+      → MovedAtMost (weak_most tc) (line_of W j) (line_of after j)
   unfolding kernel luma_line
   weak e ok j = rw e (weak_moves tc (decided β tc W).d_ep (decided β tc W).d_eq (within_line ok j))
 

@@ -116,9 +116,9 @@ reached depth = is_accepted (verdict (picture depth) lent) && (goes depth Y && (
 
 each_reached : each (λ k _. reached (8 + k)) 0 (replicate 9 0) ≡ true
 unfolding verdict ◌⊖◌ ◌⊞◌ ◌⊟◌ neg ◌⊠◌ lt ◌>>◌ clip3 abs nat_of pass_of restored finished_plane kernel window pass
-    slices_open gate luma_filter chroma_filter between segment_at activity d_sam decision clip1 near strong_line delta0
-    side_delta second weak_by weak_line luma_line chroma_delta chroma_line cell_at suppressed at table slice_at same_tile
-    average_qp beta_index tc_index scaled luma_beta luma_tc table_qpc chroma_qp chroma_tc BETA TC QPC
+    slices_open gate luma_filter chroma_filter between segment_at activity d_sam decision clip1 near strong_line
+    delta0 side_delta second weak_by weak_line luma_line chroma_delta chroma_line cell_at suppressed at table slice_at
+    same_tile average_qp beta_index tc_index scaled luma_beta luma_tc table_qpc chroma_qp chroma_tc BETA TC QPC
 each_reached = refl
 
 -- ---- what the test says, depth by depth and component by component

@@ -36,5 +36,6 @@ module _ (p : Picture) where
   pub three_sums : (p.settings.format ≡ 0 → ⊥) → {y cb cr : ℕ} → y ≡ plane_sum p Y → cb ≡ plane_sum p Cb
       → cr ≡ plane_sum p Cr → y ∷ cb ∷ cr ∷ [] ≡ plane_sums p
   three_sums some ey ecb ecr =
-      let all : plane_sums p ≡ plane_sum p Y ∷ plane_sum p Cb ∷ plane_sum p Cr ∷ [] = rw (ne_eqb p.settings.format 0 some) in
+      let all : plane_sums p ≡ plane_sum p Y ∷ plane_sum p Cb ∷ plane_sum p Cr ∷ [] =
+      rw (ne_eqb p.settings.format 0 some) in
       (λ i. ey i ∷ ecb i ∷ ecr i ∷ []) ∙ sym all

@@ -1,5 +1,6 @@
 -- The mask of a place, from what its column and its row bring to it.
-use Rattle.std.proofs.Common.{◌≡◌, ℕ, ◌+◌, ◌*◌, ◌/◌, ◌%◌, ◌^◌, ◌<◌, sym, refl, ap, ◌∙◌, ap₂, arith, below_none, below_more}
+use Rattle.std.proofs.Common.{◌≡◌, ℕ, ◌+◌, ◌*◌, ◌/◌, ◌%◌, ◌^◌, ◌<◌, sym, refl, ap, ◌∙◌, ap₂, arith}
+use Rattle.std.proofs.Common.{below_none, below_more}
 use lib.Arith.{bin_ind}
 use lib.Bits.{bit_xor, differ, xor_comm, xor_mod, xor_shr, xor_step}
 use Rattle.checksum.specs.Checksum.{mask}

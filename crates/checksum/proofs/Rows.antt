@@ -1,5 +1,6 @@
 -- The sum of a plane, row by row, modulo any number.
-use Rattle.std.proofs.Common.{◌≡◌, ℕ, ◌+◌, ◌*◌, ◌%◌, ◌^◌, ◌<◌, ◌≤◌, Bool, true, false, cond, ltb, List, get_or, sym, refl, ap, ◌∙◌, add-zero, add_assoc, zero-add, add-one, le-ltb, lt-ltb}
+use Rattle.std.proofs.Common.{◌≡◌, ℕ, ◌+◌, ◌*◌, ◌%◌, ◌^◌, ◌<◌, ◌≤◌, Bool, true, false, cond, ltb, List, get_or}
+use Rattle.std.proofs.Common.{sym, refl, ap, ◌∙◌, add-zero, add_assoc, zero-add, add-one, le-ltb, lt-ltb}
 use native.Mathlib.Nat.{mod-add-mod}
 use lib.Bits.{bit_xor}
 use Rattle.ints.proofs.Sums.{sum_both, sum_ext}

@@ -73,8 +73,8 @@ row = sample 4 ∷ sample 5 ∷ sample 6 ∷ sample 7 ∷ sample 8 ∷ sample 9 
     sample x = finished_plane (converted_picture picture) Y x 2
 
 filtered : row ≡ 100 ∷ 101 ∷ 101 ∷ 102 ∷ 103 ∷ 103 ∷ 104 ∷ 104 ∷ []
-unfolding ◌⊖◌ ◌⊞◌ ◌⊟◌ neg ◌⊠◌ lt ◌>>◌ clip3 abs nat_of pass_of restored finished_plane kernel window pass slices_open gate
-    luma_filter between segment_at activity d_sam decision clip1 near strong_line delta0 side_delta second weak_by weak_line
-    luma_line cell_at suppressed at table slice_at same_tile average_qp beta_index tc_index scaled luma_beta luma_tc BETA TC
-    converted
+unfolding ◌⊖◌ ◌⊞◌ ◌⊟◌ neg ◌⊠◌ lt ◌>>◌ clip3 abs nat_of pass_of restored finished_plane kernel window pass slices_open
+    gate luma_filter between segment_at activity d_sam decision clip1 near strong_line delta0 side_delta second
+    weak_by weak_line luma_line cell_at suppressed at table slice_at same_tile average_qp beta_index tc_index scaled
+    luma_beta luma_tc BETA TC converted
 filtered = refl

@@ -102,7 +102,8 @@ module _ (a b : List ℕ) (whole : length a % 8 ≡ 0) where
       (λ j hj. sym (get_or-append a b 0 (8 * (k / 8) + j) (omega (arith, whole)))) (k % 8) (omega arith))
 
   -- a byte of the second, which begins with a record
-  second : (j : ℕ) → get_or joined (length (converted a) + j) 0 ≡ byte_after (a ++ b) (length (a ++ b) / 8) (length a + j)
+  second : (j : ℕ)
+      → get_or joined (length (converted a) + j) 0 ≡ byte_after (a ++ b) (length (a ++ b) / 8) (length a + j)
   second j =
       get_or-append-add (converted a) (converted b) j 0 ∙ byte_is b j ∙ moved (either (j / 8) (length b / 8))
     where

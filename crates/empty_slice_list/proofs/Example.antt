@@ -66,8 +66,8 @@ rows :
     × (row (0 ∷ 6 ∷ 6 ∷ 1 ∷ []) ≡ 100 ∷ 100 ∷ 102 ∷ 105 ∷ 108 ∷ 111 ∷ 113 ∷ 113 ∷ [])
 unfolding verdict outputs finished ◌⊖◌ ◌⊞◌ ◌⊟◌ neg ◌⊠◌ lt ◌>>◌ clip3 abs nat_of pass_of restored finished_plane kernel
     window pass slices_open gate luma_filter between segment_at activity d_sam decision clip1 near strong_line delta0
-    side_delta second weak_by weak_line luma_line cell_at suppressed at table slice_at same_tile average_qp beta_index tc_index
-    scaled luma_beta luma_tc BETA TC
+    side_delta second weak_by weak_line luma_line cell_at suppressed at table slice_at same_tile average_qp beta_index
+    tc_index scaled luma_beta luma_tc BETA TC
 rows = (refl, refl)
 
 -- so it does not stand for that one any more

@@ -94,7 +94,8 @@ goes_past_all (d ∷ r) m h left =
 -- ---- the answer of the first ones, by the enum that they are told with
 
 -- acceptance says that none of them applies
-pub told_good : (l : List Entry) → AllNumbered l → {r : Told.Verdict} → numbered r ≡ first_of l → r ≡ Accepted → AllGood l
+pub told_good : (l : List Entry) → AllNumbered l → {r : Told.Verdict} → numbered r ≡ first_of l → r ≡ Accepted
+    → AllGood l
 told_good l all e accepted =
     good_out l all (ap (λ (v : Verdict). v.number) (sym e ∙ ap numbered accepted))
 

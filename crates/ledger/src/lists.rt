@@ -23,7 +23,8 @@ pub fn check_lists(
 ) -> Verdict
     requires { Settled settings cells.now }
     ensures { numbered result ≡
-        first_of (lists_part cell_rules (picture_given settings y.now cb.now cr.now cells.now slices.now columns.now rows.now)) }
+        first_of (lists_part cell_rules
+        (picture_given settings y.now cb.now cr.now cells.now slices.now columns.now rows.now)) }
 {
     let slice = first_bad_slice(slices);
     if slice < slices.len() / 4 {

@@ -32,7 +32,11 @@ count_some (x ∷ r) h = refl
 -- the tests of a record that lies in the list
 abbrev pub slice_tests : List ℕ → ℕ → List Bool
 slice_tests l at =
-    ltb 1 (get_or l at 0) ∷ ltb 12 (get_or l (at + 1) 0) ∷ ltb 12 (get_or l (at + 2) 0) ∷ ltb 1 (get_or l (at + 3) 0) ∷ []
+    ltb 1 (get_or l at 0)
+    ∷ ltb 12 (get_or l (at + 1) 0)
+    ∷ ltb 12 (get_or l (at + 2) 0)
+    ∷ ltb 1 (get_or l (at + 3) 0)
+    ∷ []
 
 pub slice_tests_lem : (l : List ℕ) (n : ℕ) → 4 * n + 4 ≤ length l
     → any_of (slice_tests l (4 * n)) ≡ any_of (bad_slice (slice_byte l n))
@@ -89,7 +93,8 @@ pub tail_tests : (count slice sixth seventh : ℕ) → slice < 65536
 tail_tests count slice sixth seventh small = go (either slice count) sixth seventh
   where
     go : (slice < count) ⊎ (count ≤ slice) → (sixth seventh : ℕ)
-        → leb (min count 65536) (slice + 65536 * sixth + 16777216 * seventh) ≡ any_of (bad_tail count slice sixth seventh)
+        → leb (min count 65536) (slice + 65536 * sixth + 16777216 * seventh)
+        ≡ any_of (bad_tail count slice sixth seventh)
     go (inr h) sixth seventh =
         rw (le-leb count slice h)
         (le-leb (min count 65536) (slice + 65536 * sixth + 16777216 * seventh) (omega arith))
@@ -137,7 +142,8 @@ module _ (least count : ℕ) (cells : List ℕ) (n : ℕ) where
       ++ (edgeless (eqb (left % 2) 1) cell.bsv ∷ edgeless (eqb (cell.flags / 2 % 2) 1) cell.bsh ∷ [])
 
   read_tests : (cell : Cell) → cell ≡ cell_at cells n
-      → any_of (tests cell cell.flags) ≡ any_of (bad_record least count cells n ++ broken cell_rules (cell_byte cells n))
+      → any_of (tests cell cell.flags)
+      ≡ any_of (bad_record least count cells n ++ broken cell_rules (cell_byte cells n))
   unfolding cell_at
   read_tests cell told =
       ap (λ (c : Cell). any_of (tests c c.flags)) told

@@ -72,9 +72,9 @@ cb switch = sample 6 ∷ sample 7 ∷ sample 8 ∷ sample 9 ∷ []
 
 left_stays : (switch : Bool)
     → (luma switch ≡ 100 ∷ 100 ∷ 100 ∷ 100 ∷ 103 ∷ 103 ∷ 104 ∷ 104 ∷ []) × (cb switch ≡ 50 ∷ 50 ∷ 56 ∷ 60 ∷ [])
-unfolding ◌⊖◌ ◌⊞◌ ◌⊟◌ neg ◌⊠◌ lt ◌>>◌ clip3 abs nat_of pass_of restored finished_plane kernel window pass slices_open gate
-    luma_filter chroma_filter between segment_at activity d_sam decision clip1 near strong_line delta0 side_delta second
-    weak_by weak_line luma_line chroma_delta chroma_line cell_at suppressed at table slice_at same_tile average_qp beta_index
-    tc_index scaled luma_beta luma_tc table_qpc chroma_qp chroma_tc BETA TC QPC
+unfolding ◌⊖◌ ◌⊞◌ ◌⊟◌ neg ◌⊠◌ lt ◌>>◌ clip3 abs nat_of pass_of restored finished_plane kernel window pass slices_open
+    gate luma_filter chroma_filter between segment_at activity d_sam decision clip1 near strong_line delta0 side_delta
+    second weak_by weak_line luma_line chroma_delta chroma_line cell_at suppressed at table slice_at same_tile
+    average_qp beta_index tc_index scaled luma_beta luma_tc table_qpc chroma_qp chroma_tc BETA TC QPC
 left_stays true = (refl, refl)
 left_stays false = (refl, refl)

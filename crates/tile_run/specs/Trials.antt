@@ -2,7 +2,7 @@
 -- place below the first tile column, and the first tile with each of the lists lent for its cut .. one too short,
 -- and, by a number 7 higher, one too long."
 use Rattle.std.specs.Prelude.{ℕ, ◌+◌, cond, leb, ltb}
-use Rattle.tile_run.specs.declared.lines.Trial.{Trial}
+use Rattle.tile_run.specs.declared.line.Trial.{Trial}
 
 -- a tile of picture `number`, with the list `wrong` of its cut one off its length, or none (0)
 abbrev pub trial : ℕ → ℕ → ℕ → ℕ → Trial

@@ -2,7 +2,7 @@
 #![tactic(auto)]
 
 mod cut_lists;
-mod lines;
+mod line;
 mod one_tile;
 mod tiles;
 

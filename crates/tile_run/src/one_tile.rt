@@ -1,6 +1,6 @@
 // One tile tried: the lists that its check needs, then the check and its line.
 use crate::cut_lists::{chroma_size, lent_cells, lent_planes};
-use crate::lines::{Trial, put_place, put_tile};
+use crate::line::{Trial, put_place, put_tile};
 use crate::{JUNK, LentSamples};
 use picture::Settings;
 use picture_record::{CELL_BYTES, SAMPLES, front, front_of_bytes};

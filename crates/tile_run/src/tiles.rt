@@ -4,7 +4,7 @@ ghost use Rattle.std.specs.Prelude.{◌≡◌, ◌<◌};
 ghost use Rattle.tile_run.specs.Trials.{trial, next_trial};
 
 use crate::LentSamples;
-use crate::lines::Trial;
+use crate::line::Trial;
 use crate::one_tile::one_tile;
 use picture::Settings;
 use tile_parts::TileAt;

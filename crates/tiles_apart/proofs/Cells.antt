@@ -49,10 +49,12 @@ module _ {p : Picture} (ok : PictureOk p) {i j : ℕ} (tile : IsTile p i j) wher
       (omega (arith, rows_span ok tile)) hb ∙ index p.cells (numbers b))
     where
       numbers : (b : ℕ)
-          → 8 * cell_number (cell_of p.width) (cell_of x + cell_of (tile_left p i)) (cell_of y + cell_of (tile_top p j)) + b
+          → 8 * cell_number (cell_of p.width) (cell_of x + cell_of (tile_left p i))
+          (cell_of y + cell_of (tile_top p j)) + b
           ≡ 8 * cell_number (cell_of p.width) (cell_of (x + tile_left p i)) (cell_of (y + tile_top p j)) + b
       numbers b =
           let column : cell_of x + cell_of (tile_left p i) ≡ cell_of (x + tile_left p i) =
           omega (arith, columns_span ok tile) in
-          let row : cell_of y + cell_of (tile_top p j) ≡ cell_of (y + tile_top p j) = omega (arith, rows_span ok tile) in
+          let row : cell_of y + cell_of (tile_top p j) ≡ cell_of (y + tile_top p j) =
+          omega (arith, rows_span ok tile) in
           λ k. 8 * cell_number (cell_of p.width) (column k) (row k) + b

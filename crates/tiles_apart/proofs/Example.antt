@@ -103,10 +103,10 @@ tiles_apart = (term3.apart two lent 0 0 left own own_long.0, term3.apart two len
 -- rows, and one sample of Cb and one of Cr in each of 8 rows
 crossed : differences two 0 0 (outputs (cut two 0 0) own) (outputs one lent) ≡ 48 + 8 + 8
 unfolding verdict cut tile_end tile_first crop rect outputs finished differences differing ◌⊖◌ ◌⊞◌ ◌⊟◌ neg ◌⊠◌ lt ◌>>◌
-    clip3 abs nat_of pass_of restored finished_plane kernel window pass slices_open gate luma_filter chroma_filter between
-    segment_at activity d_sam decision clip1 near strong_line delta0 side_delta second weak_by weak_line luma_line
-    chroma_delta chroma_line cell_at suppressed at table slice_at same_tile average_qp beta_index tc_index scaled luma_beta
-    luma_tc table_qpc chroma_qp chroma_tc BETA TC QPC
+    clip3 abs nat_of pass_of restored finished_plane kernel window pass slices_open gate luma_filter chroma_filter
+    between segment_at activity d_sam decision clip1 near strong_line delta0 side_delta second weak_by weak_line
+    luma_line chroma_delta chroma_line cell_at suppressed at table slice_at same_tile average_qp beta_index tc_index
+    scaled luma_beta luma_tc table_qpc chroma_qp chroma_tc BETA TC QPC
 crossed = refl
 
 -- and the right tile, whatever it holds, does not move the left one

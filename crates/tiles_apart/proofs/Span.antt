@@ -43,7 +43,8 @@ counted_same start c d (inr k) = counted_none start c k.0 ∙ sym (counted_none 
 -- ---- the tile numbers of two CTBs
 
 -- equal where no start lies between
-tile_same : (l : List ℕ) (c d : ℕ) → ((k : ℕ) → k < length l → NotBetween (get_or l k 0) c d) → tile_of l c ≡ tile_of l d
+tile_same : (l : List ℕ) (c d : ℕ) → ((k : ℕ) → k < length l → NotBetween (get_or l k 0) c d)
+    → tile_of l c ≡ tile_of l d
 tile_same [] c d h = refl
 tile_same (t ∷ r) c d h =
     omega (arith, counted_same t c d (h 0 (omega arith)), tile_same r c d (λ k l. h (suc k) (omega arith)))

@@ -9,14 +9,16 @@ use Rattle.checksum.proofs.planes.chroma_checksum.Goals as goal
 
 pub overflow_cast-across : goal.overflow_cast-across
 overflow_cast-across c =
+    let across = chroma_across c.args.settings.chroma_format in
     let width_fits : c.chroma-across.result.0 ≤ 8192 =
-    rw c.chroma-across.ensures (from_luma_most (chroma_across c.args.settings.chroma_format) c.requires.width_bound.0) in
+    rw c.chroma-across.ensures (from_luma_most across c.requires.width_bound.0) in
     record { fits = omega (arith, width_fits) }
 
 pub overflow_cast-down : goal.overflow_cast-down
 overflow_cast-down c =
+    let down = chroma_down c.args.settings.chroma_format in
     let height-fits : c.chroma_rows-down.result ≤ 8192 =
-    rw c.chroma_rows-down.ensures (from_luma_most (chroma_down c.args.settings.chroma_format) c.requires.width_bound.1) in
+    rw c.chroma_rows-down.ensures (from_luma_most down c.requires.width_bound.1) in
     record { fits = omega (arith, height-fits) }
 
 pub plane_checksum-requires : goal.plane_checksum-requires

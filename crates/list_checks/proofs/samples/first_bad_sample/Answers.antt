@@ -19,7 +19,8 @@ returns-then-largest-block_bits c =
 pub loop-from-preserved : goal.loop-from-preserved
 loop-from-preserved c =
     let plane = c.args.plane.now in
-    (omega arith, block_more plane c.loop-from.from c.loop-from.invariant.1 256 c.block_bits.ensures c.if-largest-block_bits.false)
+    let l = c.loop-from in
+    (omega arith, block_more plane l.from l.invariant.1 256 c.block_bits.ensures c.if-largest-block_bits.false)
 
 pub first_bad_from-requires-2 : goal.first_bad_from-requires-2
 first_bad_from-requires-2 c =

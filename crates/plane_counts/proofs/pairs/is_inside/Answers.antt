@@ -1,7 +1,6 @@
 -- `is_inside` meets its contract: its two tests are the definition's.
 -- Assumes nothing.
 use mathlib.Core.Path.{refl}
-use borrow.Author.Rules.{rules}
 use Rattle.plane_counts.specs.Pairs.{inside}
 use Rattle.plane_counts.proofs.pairs.is_inside.Goals as goal
 

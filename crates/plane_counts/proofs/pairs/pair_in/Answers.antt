@@ -1,7 +1,5 @@
 -- `pair_in` meets its contract: each field is what its word ensures.
 -- Assumes nothing.
-use mathlib.Core.Path.{◌≡◌}
-use borrow.Author.Rules.{rules}
 use Rattle.plane_counts.specs.Pairs.{pair_in}
 use Rattle.plane_counts.proofs.pairs.pair_in.Goals as goal
 

@@ -1,6 +1,5 @@
 -- `count_pair` meets what it calls: the part lies in the second plane.
 -- Assumes nothing.
-use borrow.Author.Rules.{rules}
 use Rattle.plane_counts.proofs.Bounds.{room}
 use Rattle.plane_counts.proofs.turn.count_pair.Goals as goal
 

@@ -1,7 +1,6 @@
 -- `run` is safe and ends: the measure is the number of turns that are left.
 -- Assumes nothing.
 use Prim.Native.Nat.{◌-◌}
-use borrow.Author.Rules.{rules}
 use Rattle.plane_counts.proofs.turn.run.Given as goal
 
 abbrev pub invariant-loop-number : goal.invariant-loop-number

@@ -2,7 +2,6 @@
 -- Assumes nothing.
 use native.Mathlib.Omega.{arith}
 use lib.ListN.{length-take}
-use borrow.Author.Rules.{rules}
 use Rattle.plane_counts.proofs.turn.with_planes.Goals as goal
 
 pub slice_bounds-read_and_count-end : goal.slice_bounds-read_and_count-end
@@ -15,4 +14,8 @@ slice_bounds-read_and_count-end-2 c =
 
 pub read_and_count-requires : goal.read_and_count-requires
 read_and_count-requires c =
-    record { fitting = c.requires; first_len = simp length-take (omega arith); second_len = simp length-take (omega arith) }
+    record {
+      fitting = c.requires;
+      first_len = simp length-take (omega arith);
+      second_len = simp length-take (omega arith);
+    }
