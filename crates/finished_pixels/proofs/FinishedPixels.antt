@@ -13,7 +13,8 @@ use Rattle.float_samples.specs.Fraction.{Fraction}
 use Rattle.float_samples.specs.Sample.{fraction_of}
 use Rattle.picture.specs.Causes.{planes_ledger, verdict}
 use Rattle.picture.specs.Ledger.{Verdict, acceptance, first_of}
-use Rattle.picture.specs.Picture.{Picture, Planes, across, depth_of, down, plane_height, plane_of, plane_width, with_planes}
+use Rattle.picture.specs.Picture.{Picture, Planes, across, depth_of, down, plane_height, plane_of, plane_width}
+use Rattle.picture.specs.Picture.{with_planes}
 use Rattle.picture.specs.Plane.{at}
 use Rattle.picture.specs.Scale.{Component, Y, Cb, Cr, chroma_across, chroma_down}
 use Rattle.picture.proofs.Accepted.{accepted_by}

@@ -1,6 +1,6 @@
 -- Document 02, C-22: "Ask for a pixel of finished planes". `verdict` and `outputs` are the answer and the planes that
--- the stage's contract names, `pixel_answer` is what the contract of a pixel names: what is said of them here is said of
--- a call of the one and then of the other.
+-- the stage's contract names, `pixel_answer` is what the contract of a pixel names: what is said of them here is said
+-- of a call of the one and then of the other.
 use Rattle.std.specs.Prelude.{ℕ, ◌<◌, ◌≡◌, List}
 use Rattle.filter.specs.Finished.{finished_plane, outputs}
 use Rattle.float_samples.specs.Fraction.{Fraction}

@@ -1,6 +1,10 @@
 -- Floats that are a whole number over a power of two: quotient and product are exact, and the float is one alone.
 -- `HasValue x s a c` of lib.Ieee.Exact says that x is finite, has the sign s and is a / c in size.
-use Rattle.std.proofs.Common.{◌≡◌, ℕ, suc, ◌+◌, ◌-◌, ◌*◌, ◌/◌, ◌^◌, ◌<◌, ◌≤◌, min, Bool, true, false, cond, not, T, eqb, ℤ, pos, negsuc, nat_abs, sym, ap, ◌∙◌, subst, true≢false, zero-le, le_trans, le_of_eq, lt_of_lt_of_le, le_of_lt, lt_irrefl, zero-lt-suc, mul_assoc, mul_comm, mul-lt-mul_of_pos_right, mul-pos, zero-mul, mul-one, mul_right_comm, mul-div_cancel, arith, le→leb, eqb→eq, lt→ltb, pow_pos, pow_mono, pow-add, shl_lt, le-ltb}
+use Rattle.std.proofs.Common.{◌≡◌, ℕ, suc, ◌+◌, ◌-◌, ◌*◌, ◌/◌, ◌^◌, ◌<◌, ◌≤◌, min, Bool, true, false, cond, not, T}
+use Rattle.std.proofs.Common.{eqb, ℤ, pos, negsuc, nat_abs, sym, ap, ◌∙◌, subst, true≢false, zero-le, le_trans}
+use Rattle.std.proofs.Common.{le_of_eq, lt_of_lt_of_le, le_of_lt, lt_irrefl, zero-lt-suc, mul_assoc, mul_comm}
+use Rattle.std.proofs.Common.{mul-lt-mul_of_pos_right, mul-pos, zero-mul, mul-one, mul_right_comm, mul-div_cancel}
+use Rattle.std.proofs.Common.{arith, le→leb, eqb→eq, lt→ltb, pow_pos, pow_mono, pow-add, shl_lt, le-ltb}
 use native.Mathlib.Nat.{eq_of_mul-eq-mul_right}
 use mathlib.Core.Bool.{false≢true}
 use lib.Ieee.{Float, nan, inf, fin, binary32, up, down, hid, top, size, round, neg, div, mul, lt, ne}

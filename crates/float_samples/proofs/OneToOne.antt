@@ -1,5 +1,7 @@
 -- Samples and floats, one to one: the fraction of a sample is a float, of no other sample, and of no other pattern.
-use Rattle.std.proofs.Common.{◌≡◌, ℕ, suc, ◌-◌, ◌*◌, ◌^◌, ◌<◌, ◌≤◌, Bool, true, false, cond, T, ltb, ◌⊎◌, ℤ, pos, negsuc, nat_abs, sym, refl, ap, ◌∙◌, subst, inl, inr, true≢false, le_trans, le_refl, lt_of_lt_of_le, zero-mul, arith, lit≤, ltb→lt, pow_mono}
+use Rattle.std.proofs.Common.{◌≡◌, ℕ, suc, ◌-◌, ◌*◌, ◌^◌, ◌<◌, ◌≤◌, Bool, true, false, cond, T, ltb, ◌⊎◌, ℤ, pos}
+use Rattle.std.proofs.Common.{negsuc, nat_abs, sym, refl, ap, ◌∙◌, subst, inl, inr, true≢false, le_trans, le_refl}
+use Rattle.std.proofs.Common.{lt_of_lt_of_le, zero-mul, arith, lit≤, ltb→lt, pow_mono}
 use native.Mathlib.Nat.{eq_of_mul-eq-mul_right}
 use lib.IntN.{sub_ℕ}
 use lib.Pow.{pow-lt}

@@ -1,5 +1,6 @@
 -- Powers of two up to 2^16, as the code makes them.
-use Rattle.std.proofs.Common.{◌≡◌, ℕ, ◌+◌, ◌-◌, ◌*◌, ◌/◌, ◌^◌, ◌≤◌, sym, ap, ◌∙◌, mul-div_cancel, arith, pow_pos, pow-add}
+use Rattle.std.proofs.Common.{◌≡◌, ℕ, ◌+◌, ◌-◌, ◌*◌, ◌/◌, ◌^◌, ◌≤◌, sym, ap, ◌∙◌, mul-div_cancel, arith, pow_pos}
+use Rattle.std.proofs.Common.{pow-add}
 
 -- 2^16 shifted right by 16 - depth
 pub shifted_out : (d : ℕ) → d ≤ 16 → 65536 / 2 ^ (16 - d) ≡ 2 ^ d

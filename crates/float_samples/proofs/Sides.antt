@@ -1,5 +1,7 @@
 -- A sample and the float that it gives: luma, chroma below the middle, chroma from the middle on.
-use Rattle.std.proofs.Common.{◌≡◌, ℕ, suc, ◌+◌, ◌-◌, ◌*◌, ◌^◌, ◌<◌, ◌≤◌, Bool, true, false, not, T, ltb, ◌⊎◌, ℤ, pos, negsuc, sym, ap, ◌∙◌, subst, inl, inr, true≢false, lt_of_lt_of_le, pow-suc, arith, ltb→lt, nltb→le, pow_mono}
+use Rattle.std.proofs.Common.{◌≡◌, ℕ, suc, ◌+◌, ◌-◌, ◌*◌, ◌^◌, ◌<◌, ◌≤◌, Bool, true, false, not, T, ltb, ◌⊎◌, ℤ}
+use Rattle.std.proofs.Common.{pos, negsuc, sym, ap, ◌∙◌, subst, inl, inr, true≢false, lt_of_lt_of_le, pow-suc}
+use Rattle.std.proofs.Common.{arith, ltb→lt, nltb→le, pow_mono}
 use lib.Ieee.{Float, fin, neg, lt}
 use Rattle.ints.proofs.Laws.{diff_neg, diff_pos}
 use Rattle.float_samples.specs.Fraction.{Exactly}

@@ -1,0 +1,10 @@
+-- `run` is safe and ends: the measure is the number of turns that are left.
+-- Assumes nothing.
+use Prim.Native.Nat.{◌-◌}
+use Rattle.picture_run.proofs.turn.run.Given as goal
+
+abbrev pub invariant-loop-number : goal.invariant-loop-number
+invariant-loop-number l = Unit {0}
+
+abbrev pub decreases-loop-number : goal.decreases-loop-number
+decreases-loop-number l = 18446744073709551615 - l.number
