@@ -327,8 +327,8 @@ CONVERSION = [
     Edit("conversion/strengths", "let mut n = 0;", "let mut n = 1;"),
     Edit("conversion/strengths", "while n < cells.len() / 8 {", "while n + 1 < cells.len() / 8 {"),
     Edit("conversion/strengths", "while n < cells.len() / 8 {", "while n < (cells.len() + 4) / 8 {"),
-    Edit("conversion/strengths", "bytes::copy(cells, &mut out[..]);", """let whole = cells.len() / 8 * 8;
-    bytes::copy(&cells[..whole], &mut out[..whole]);"""),
+    Edit("conversion/strengths", "out.copy_from_slice(cells);", """let whole = cells.len() / 8 * 8;
+    out[..whole].copy_from_slice(&cells[..whole]);"""),
     Edit("conversion/strengths", "if cells.len() != out.len() {", "if out.len() < cells.len() {"),
     Edit("conversion/strengths", "if cells.len() != out.len() {", "if cells.len() / 8 != out.len() / 8 {"),
     Edit("conversion/strengths", "        return false;", "        convert_records(&mut out[..]);\n        return false;"),
@@ -341,11 +341,20 @@ CONVERSION = [
 CONVERTER = [
     Edit("conversion_run/parts", "const PART: usize = 32768;", "const PART: usize = 32764;"),
     Edit("conversion_run/parts", "(got == n)", "(n < got)"),
-    Edit("conversion_run/parts", "io::write_all(STDOUT_FILENO, made)", "io::write_all(STDOUT_FILENO, &made[..made.len() / 8 * 8])"),
-    Edit("conversion_run/parts", "let got = fill(&mut asked[..n]);", "let got = (fill(&mut asked[..n]) + 7) / 8 * 8;"),
+    Edit("conversion_run/parts", "output.write_all(made).is_ok()", "output.write_all(&made[..made.len() / 8 * 8]).is_ok()"),
+    Edit("conversion_run/parts", "let got = fill(input, errors, &mut asked[..n]);",
+         "let got = (fill(input, errors, &mut asked[..n]) + 7) / 8 * 8;"),
     Edit("conversion_run/parts", "if more == 0 {\n            return done;",
          "if done + more < list.len() {\n            return done + more;"),
-    Edit("conversion_run/parts", "if got < 0 {", "if 0 < got {"),
+    Edit("conversion_run/parts", """        Ok(got) => got,
+        Err(_) => {
+            say(errors, b"the input could not be read\\n");
+            0
+        }""", """        Ok(got) => {
+            say(errors, b"the input could not be read\\n");
+            got
+        }
+        Err(_) => 0,"""),
     Edit("conversion_run/parts", "if !is_written {", "if !is_written & (list.len() == 0) {"),
 ]
 
