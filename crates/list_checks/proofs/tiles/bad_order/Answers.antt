@@ -5,8 +5,8 @@ use Rattle.list_checks.proofs.tiles.bad_order.Goals as goal
 
 pub returns-then-k-eq0 : goal.returns-then-k-eq0
 returns-then-k-eq0 c =
-    order_first _ _ c.if-k-eq0.true
+    order_first c.args.starts.now c.args.k c.if-k-eq0.true
 
 pub returns : goal.returns
 returns c =
-    order_later _ _ c.if-k-eq0.false
+    order_later c.args.starts.now c.args.k c.if-k-eq0.false
