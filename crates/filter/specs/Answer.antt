@@ -32,8 +32,7 @@ pub record Sound (k : Component) : Type 0 where
   pub largest_is : k.largest ≡ largest_at k.depth
 
 -- what a segment of a picture that was checked has; a QP's byte is 64 more. Where its bS is not 0 and its average QP
--- not
--- negative, the table of the luma tc has an entry for it.
+-- not negative, the table of the luma tc has an entry for it.
 pub record SegmentInRange (p q : Cell) (slice_q : Slice) (bS : ℕ) : Type 0 where
   pub qp_p : p.qp ≤ 64 + 51
   pub qp_q : q.qp ≤ 64 + 51

@@ -47,9 +47,9 @@ pub data Figure : Type 0 where
 -- the definitions give the figure
 abbrev pub Given : Figure → Type 0
 Given (thresholds β tc) = (segment_beta ≡ β) × (segment_tc ≡ tc)
-Given (segment q d count_p countQ out) =
+Given (segment q d count_p count_q out) =
     (answer_of (decision segment_beta segment_tc (step q) (step q))
-    ≡ record { decision = d; counts = record { p = count_p; q = countQ } })
+    ≡ record { decision = d; counts = record { p = count_p; q = count_q } })
     × (luma_line (decision segment_beta segment_tc (step q) (step q)) 255 segment_tc (step q) ≡ out)
 Given (average p q a) = average_qp p q ≡ a
 Given (chroma_qps format i qp) = chroma_qp format i ≡ qp

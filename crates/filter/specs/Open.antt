@@ -1,6 +1,5 @@
 -- Document 02, C-24: "Answer with the first open segment .. or with none". The full list of a picture's open segments,
--- in
--- the order of Places.antt.
+-- in the order of Places.antt.
 use Rattle.std.specs.Prelude.{ℕ, Bool, true, false, cond, ◌||◌, List, [], ◌∷◌}
 use Rattle.std.proofs.Math.Option.{Option, none, some}
 use Rattle.filter.specs.Kernel.{Filter}

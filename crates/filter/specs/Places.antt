@@ -28,8 +28,7 @@ abbrev pub segments_along : ℕ → ℕ
 segments_along n = (n + 3) / 4
 
 -- an edge and a first line where a segment lies, of a plane of `across` samples across the edges and `along` samples
--- along
--- them
+-- along them
 pub record OnGrid (across along edge line : ℕ) : Type 0 where
   pub eights : edge % 8 ≡ 0
   pub some : 0 < edge
@@ -56,5 +55,6 @@ places_of p c vertical = places_across c vertical (plane_width p c) (plane_heigh
 places_of p c horizontal = places_across c horizontal (plane_height p c) (plane_width p c)
 
 unfoldable pub places : Picture → List Place
-places p = places_of p Y vertical ++ (places_of p Y horizontal ++ (places_of p Cb vertical ++ places_of p Cb
-    horizontal))
+places p =
+    places_of p Y vertical
+    ++ (places_of p Y horizontal ++ (places_of p Cb vertical ++ places_of p Cb horizontal))

@@ -19,9 +19,9 @@ sized_again ey eb er ok = record { y = ey ∙ ok.y; cb = eb ∙ ok.cb; cr = er �
 
 -- where the cut and what the stage leaves of it are known
 module _ (s : Code.Settings) (luma : Part) (originals : Planes) (cells slices : List ℕ) (lent : Planes)
-    {own : Code.Settings} {cut : Planes} {cut_Cells : List ℕ} {left : Planes}
-    (eo : own ≡ alone s luma) (ec : cut ≡ part_planes s luma originals) (es : cut_Cells ≡ part_cells s luma cells)
-    (el : left ≡ outputs (one_tile own cut cut_Cells slices) lent) where
+    {own : Code.Settings} {cut : Planes} {cut_cells : List ℕ} {left : Planes}
+    (eo : own ≡ alone s luma) (ec : cut ≡ part_planes s luma originals) (es : cut_cells ≡ part_cells s luma cells)
+    (el : left ≡ outputs (one_tile own cut cut_cells slices) lent) where
   left_is : left ≡ outputs (part_alone s luma originals cells slices) lent
   left_is = el ∙ (λ k. outputs (one_tile (eo k) (ec k) (es k) slices) lent)
 
@@ -29,5 +29,5 @@ module _ (s : Code.Settings) (luma : Part) (originals : Planes) (cells slices : 
       → r ≡ differing_alone s luma originals cells slices lent out
   counted_cut out er = er ∙ ap (λ (o : Planes). differing_planes s luma o out) left_is
 
-  pub filtered_cut : scratch cut cut_Cells left ≡ filtered_alone s luma originals cells slices lent
+  pub filtered_cut : scratch cut cut_cells left ≡ filtered_alone s luma originals cells slices lent
   filtered_cut = λ k. record { originals = ec k; cells = es k; own = left_is k }

@@ -35,8 +35,8 @@ fn filter_cut(
     outcr: &mut [u16],
 )
     ensures { planes_of outy.new outcb.new outcr.new ≡
-        outputs (one_tile settings (planes_of y.now cb.now cr.now) cells.now slices.now) (planes_of outy.old outcb.old
-        outcr.old) }
+        outputs (one_tile settings (planes_of y.now cb.now cr.now) cells.now slices.now)
+        (planes_of outy.old outcb.old outcr.old) }
 {
     let start = [0u16; 1];
     apply_deblocking(
@@ -68,8 +68,7 @@ pub(crate) fn compare_cut(
         (planes_of outy.now outcb.now outcr.now)
         (scratch_of cuty.old cutcb.old cutcr.old cutcells.old owny.old owncb.old owncr.old) }
     ensures count { result ≡ differing_alone settings (part_of luma) (planes_of y.now cb.now cr.now) cells.now
-        slices.now
-        (planes_of owny.old owncb.old owncr.old) (planes_of outy.now outcb.now outcr.now) }
+        slices.now (planes_of owny.old owncb.old owncr.old) (planes_of outy.now outcb.now outcr.now) }
     ensures scratch { scratch_of cuty.new cutcb.new cutcr.new cutcells.new owny.new owncb.new owncr.new
         ≡ filtered_alone settings (part_of luma)
         (planes_of y.now cb.now cr.now) cells.now slices.now (planes_of owny.old owncb.old owncr.old) }

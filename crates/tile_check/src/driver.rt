@@ -60,8 +60,8 @@ fn compare_tile(
 ) -> TileAnswer
     requires { Accepted (picture_given settings y.now cb.now cr.now cells.now slices.now columns.now rows.now)
         (planes_of outy.now outcb.now outcr.now) }
-    ensures answer { told result ≡ compared (picture_given settings y.now cb.now cr.now cells.now slices.now
-        columns.now rows.now) at
+    ensures answer { told result ≡ compared
+        (picture_given settings y.now cb.now cr.now cells.now slices.now columns.now rows.now) at
         (scratch_of cuty.old cutcb.old cutcr.old cutcells.old owny.old owncb.old owncr.old)
         (planes_of outy.now outcb.now outcr.now) }
     ensures scratch { scratch_of cuty.new cutcb.new cutcr.new cutcells.new owny.new owncb.new owncr.new ≡
