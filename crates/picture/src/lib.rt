@@ -46,3 +46,23 @@ pub struct Slice {
     pub tc: u8,
     pub across: bool,
 }
+
+// Three planes of samples, lent to be read. A monochrome picture's Cb and Cr are empty.
+#[derive(Clone, Copy)]
+pub struct Planes<'a> {
+    pub y: &'a [u16],
+    pub cb: &'a [u16],
+    pub cr: &'a [u16],
+}
+
+// A picture, lent to be read: its sizes and settings, its original planes, its cell and slice records, and the CTBs at
+// which its tile columns and rows start. Nothing is in range until it was checked.
+#[derive(Clone, Copy)]
+pub struct Picture<'a> {
+    pub settings: Settings,
+    pub planes: Planes<'a>,
+    pub cells: &'a [u8],
+    pub slices: &'a [u8],
+    pub columns: &'a [u16],
+    pub rows: &'a [u16],
+}
