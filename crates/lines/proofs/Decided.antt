@@ -1,6 +1,7 @@
--- The decision of the definitions, of what the code's calls and tests gave.
+-- The decision of the definitions, by the four activities, their sums and the two line decisions, in the order of
+-- 8.7.2.5.3, of what the code's calls and tests gave.
 use Prim.Native.Nat.{ℕ, ◌+◌, ◌*◌, ◌/◌, ◌≤◌, ◌<◌}
-use mathlib.Core.Path.{◌≡◌, refl, sym, ◌∙◌, ap₂}
+use mathlib.Core.Path.{◌≡◌, sym, ◌∙◌, ap₂}
 use mathlib.Core.Bool.{Bool, true, false, cond, ◌&&◌}
 use lib.Dec.{ltb}
 use borrow.Author.Tests.{lt-ltb, le-ltb}
@@ -13,19 +14,9 @@ use Rattle.lines.specs.Code.{d_sam_n}
 use Rattle.lines.specs.Decision.{dp_of, dq_of, d_sam, decision}
 use Rattle.lines.proofs.Numbers.{activity_is, dsam_is}
 
--- ---- dSam, by the tests that led to each answer
-
-pub flat_no1 : {a b : ℕ} (y : Bool) → b ≤ a → false ≡ (ltb a b && y)
-flat_no1 {a} {b} y h = simp (le-ltb a b h)
-
-pub flat_no2 : {a b c c' d : ℕ} (y : Bool) → a < b → d ≤ c → c ≡ c' → false ≡ (ltb a b && (ltb c' d && y))
-flat_no2 {a} {b} {c} {c'} {d} y h k e = rw (← e) (simp (lt-ltb a b h, le-ltb c d k))
-
-pub flat_yes : {a b c c' d g g' : ℕ} (u : ℕ) → a < b → c < d → c ≡ c' → g ≡ g'
-    → ltb g u ≡ (ltb a b && (ltb c' d && ltb g' u))
-flat_yes {a} {b} {c} {c'} {d} u h k e e' = rw (← e, ← e') (simp (lt-ltb a b h, lt-ltb c d k))
-
--- ---- the decision, by the four activities, their sums and the two line decisions, in the order of 8.7.2.5.3
+-- dSam of a line, as the code computes it
+abbrev pub line_flat : ℕ → ℕ → ℕ → Line → Bool
+line_flat β tc dpq l = d_sam_n β tc dpq l.p3 l.p0 l.q0 l.q3
 
 -- the four activities, as the code computes them
 pub record Activities (l0 l3 : Line) (dp0 dp3 dq0 dq3 : ℕ) : Type 0 where
@@ -62,18 +53,13 @@ module _ (β tc : ℕ) {l0 l3 : Line} {dp0 dp3 dq0 dq3 : ℕ} (are : Activities 
     by_both true e = cc (lt-ltb _ _ h, e1, e2, e3, e4)
     by_both false e = cc (lt-ltb _ _ h, e1, e2, e3, e4)
 
-    module _ {dSam0 : Bool} (s0 : dSam0 ≡ d_sam_n β tc (2 * (dp0 + dq0)) l0.p3 l0.p0 l0.q0 l0.q3) where
-      by_lines : {dSam3 : Bool} → dSam3 ≡ d_sam_n β tc (2 * (dp3 + dq3)) l3.p3 l3.p0 l3.q0 l3.q3
-          → cond (dSam0 && dSam3) Strong (weak β (dp0 + dp3) (dq0 + dq3)) ≡ case_of (decision β tc l0 l3)
-      by_lines s3 = by_both _ (ap₂ ◌&&◌ (s0 ∙ sym (dsam_is β tc _ l0)) (s3 ∙ sym (dsam_is β tc _ l3)))
+    module _ {flat : Bool}
+        (e : flat ≡ (line_flat β tc (2 * (dp0 + dq0)) l0 && line_flat β tc (2 * (dp3 + dq3)) l3)) where
+      by_lines : cond flat Strong (weak β (dp0 + dp3) (dq0 + dq3)) ≡ case_of (decision β tc l0 l3)
+      by_lines = by_both _ (e ∙ ap₂ ◌&&◌ (sym (dsam_is β tc _ l0)) (sym (dsam_is β tc _ l3)))
 
-      pub decided_weak0 : dSam0 ≡ false → weak β (dp0 + dp3) (dq0 + dq3) ≡ case_of (decision β tc l0 l3)
-      decided_weak0 n0 = rw n0 at (by_lines refl)
+      pub decided_weak : flat ≡ false → weak β (dp0 + dp3) (dq0 + dq3) ≡ case_of (decision β tc l0 l3)
+      decided_weak n = rw n at by_lines
 
-      module _ (y0 : dSam0 ≡ true) {dSam3 : Bool}
-          (s3 : dSam3 ≡ d_sam_n β tc (2 * (dp3 + dq3)) l3.p3 l3.p0 l3.q0 l3.q3) where
-        pub decided_weak3 : dSam3 ≡ false → weak β (dp0 + dp3) (dq0 + dq3) ≡ case_of (decision β tc l0 l3)
-        decided_weak3 n3 = rw (y0, n3) at (by_lines s3)
-
-        pub decided_strong : dSam3 ≡ true → Strong ≡ case_of (decision β tc l0 l3)
-        decided_strong y3 = rw (y0, y3) at (by_lines s3)
+      pub decided_strong : flat ≡ true → Strong ≡ case_of (decision β tc l0 l3)
+      decided_strong y = rw y at by_lines

@@ -1,6 +1,6 @@
 -- Number by number: what the code computes in naturals is what the definitions say over the integers.
-use Prim.Native.Nat.{ℕ, ◌+◌, ◌*◌, ◌-◌, ◌/◌, ◌≤◌, ◌<◌, min, max}
-use mathlib.Core.Path.{◌≡◌, refl, ◌∙◌, ap, ap₂}
+use Prim.Native.Nat.{ℕ, ◌+◌, ◌*◌, ◌-◌, ◌/◌, ◌≤◌, ◌<◌}
+use mathlib.Core.Path.{◌≡◌, refl, ◌∙◌, ap}
 use mathlib.Core.Bool.{Bool, true, false}
 use native.Mathlib.Omega.{arith}
 use lib.IntN.{ℤ, pos}
@@ -29,19 +29,6 @@ dsam_is β tc dpq l = simp gap_is
 pub near_is : (t x n : ℕ) → nat_of (near (pos t) (pos x) (pos n)) ≡ near_n t x n
 unfolding near nat_of
 near_is t x n = simp times-pos (ap nat_of (clip_near x (2 * t) n))
-
--- 2 tc held to 16 bits: below x it leaves nothing either way, and above x it is past every v
-near_low : {x d : ℕ} (t : ℕ) → x < 65536 → d ≡ min 65535 (t + t) → x - d ≡ x - 2 * t
-near_low t h e = omega arith
-
-near_high : {v d : ℕ} (t x : ℕ) → v < 65536 → d ≡ min 65535 (t + t) → min (min 65535 (x + d)) v ≡ min (x + 2 * t) v
-near_high t x h e = omega arith
-
-pub near_made : (t x v d low high m r : ℕ) → x < 65536 → v < 65536
-    → d ≡ min 65535 (t + t) → low ≡ x - d → high ≡ min 65535 (x + d) → m ≡ min high v → r ≡ max low m
-    → r ≡ near_n t x v
-near_made t x v d low high m r hx hv ed el eh em er =
-    er ∙ ap₂ max (el ∙ near_low t hx ed) (em ∙ ap (λ (n : ℕ). min n v) eh ∙ near_high t x hv ed)
 
 -- ---- Δ, and a sample moved by it
 
@@ -89,7 +76,3 @@ unfolding second
 second_is true largest half x2 x1 x0 d h k =
     ap (λ (z : ℤ). clip1 largest (pos x1 ⊞ z)) (side_is x2 x1 x0 d h k) ∙ moved_is largest x1 _
 second_is false largest half x2 x1 x0 d h k = refl
-
-pub second_made : (on : Bool) (largest half x2 x1 x0 d e r : ℕ) → on ≡ true
-    → e ≡ side_delta_n half x2 x1 x0 d → r ≡ moved_n largest x1 e → r ≡ second_n on largest half x2 x1 x0 d
-second_made on largest half x2 x1 x0 d e r h he hr = rw (h, ← he) hr

@@ -6,6 +6,7 @@ use crate::ChromaLine;
 use crate::delta::{clip_delta, moved};
 
 // One chroma line; `largest` is the depth's largest sample.
+#[tactic(auto, using(crate::proofs::Filtered::chroma_made))]
 pub fn chroma_line(largest: u16, tc: u16, l: ChromaLine) -> ChromaLine
     ensures { result ≡ chroma_line largest tc l }
 {

@@ -17,18 +17,12 @@ fn side_activity(x2: u16, x1: u16, x0: u16) -> u32
 }
 
 // Whether one line is flat enough on both sides and across.
-fn d_sam(beta: u32, tc: u16, dpq: u32, p3: u16, p0: u16, q0: u16, q3: u16) -> bool
-    ensures { result ≡ d_sam_n beta tc dpq p3 p0 q0 q3 }
+fn d_sam(beta: u32, tc: u16, dpq: u32, l: Line) -> bool
+    ensures { result ≡ d_sam_n beta tc dpq l.p3 l.p0 l.q0 l.q3 }
 {
-    let ends = ints::abs_diff(p3 as u32, p0 as u32) + ints::abs_diff(q0 as u32, q3 as u32);
-    let step = ints::abs_diff(p0 as u32, q0 as u32);
-    if dpq >= beta >> 2 {
-        return false;
-    }
-    if ends >= beta >> 3 {
-        return false;
-    }
-    step < (5 * (tc as u32) + 1) >> 1
+    let ends = ints::abs_diff(l.p3 as u32, l.p0 as u32) + ints::abs_diff(l.q0 as u32, l.q3 as u32);
+    let step = ints::abs_diff(l.p0 as u32, l.q0 as u32);
+    dpq < beta >> 2 && ends < beta >> 3 && step < (5 * (tc as u32) + 1) >> 1
 }
 
 // 8.7.2.5.3, in its order and by its names: the decision for a segment by its lines 0 and 3; it holds for all four.
@@ -49,14 +43,11 @@ pub fn luma_decision(beta: u16, tc: u16, l0: Line, l3: Line) -> LumaAnswer
     if d >= beta {
         return with_counts(LumaDecision::Skip);
     }
-    let d_sam0 = d_sam(beta, tc, 2 * dpq0, l0.p3, l0.p0, l0.q0, l0.q3);
     // where dSam0 is 0, dSam3 decides nothing
-    if d_sam0 {
-        let d_sam3 = d_sam(beta, tc, 2 * dpq3, l3.p3, l3.p0, l3.q0, l3.q3);
-        // dE is 2, whose filter reads no side flag
-        if d_sam3 {
-            return with_counts(LumaDecision::Strong);
-        }
+    let strong = d_sam(beta, tc, 2 * dpq0, l0) && d_sam(beta, tc, 2 * dpq3, l3);
+    // dE is 2, whose filter reads no side flag
+    if strong {
+        return with_counts(LumaDecision::Strong);
     }
     // dE is 1
     let d_ep = dp < (beta + (beta >> 1)) >> 3;

@@ -9,7 +9,6 @@ mod chroma;
 mod counts;
 mod decision;
 mod delta;
-mod limits;
 mod strong;
 mod weak;
 
@@ -68,6 +67,7 @@ pub struct ChromaLine {
 }
 
 // 8.7.2.5.7: one luma line, as the segment's decision says; `largest` is the depth's largest sample.
+#[tactic(auto, unfolding(crate::specs::Luma::luma_line))]
 pub fn luma_line(d: LumaDecision, largest: u16, tc: u16, l: Line) -> Line
     ensures { result ≡ luma_line (values_of d) largest tc l }
 {

@@ -4,15 +4,15 @@ ghost use Rattle.lines.specs.Code.{near_n};
 ghost use Rattle.lines.specs.Luma.{strong_line};
 
 use crate::Line;
-use crate::limits::{lowered, not_above, not_below, raised};
 
-// Clip3(x - 2 tc, x + 2 tc, v), of 16 bits: what 2 tc is past them makes no difference.
+// Clip3(x - 2 tc, x + 2 tc, v), of 16 bits: what 2 tc is past them makes no difference. Each limit is one choice of two
+// numbers, which takes no jump, so that four lines side by side can be filtered as one.
 fn clip_near(tc: u16, x: u16, v: u32) -> u16
     requires { v < 65536 }
     ensures { result ≡ near_n tc x v }
 {
-    let d = raised(tc, tc);
-    not_below(lowered(x, d), not_above(raised(x, d), v as u16))
+    let d = tc.saturating_add(tc);
+    (v as u16).min(x.saturating_add(d)).max(x.saturating_sub(d))
 }
 
 // The first, second and third sample of a side: a mean of the samples around it, held near the sample x that it
@@ -47,6 +47,7 @@ fn strong2(tc: u16, x: u16, a: u16, b: u16, c: u16, d: u16, e: u16) -> u16
     )
 }
 
+#[tactic(auto, using(crate::proofs::Filtered::strong_made))]
 pub fn strong_line(tc: u16, l: Line) -> Line
     ensures { result ≡ strong_line tc l }
 {

@@ -26,6 +26,7 @@ fn second_sample(on: bool, largest: u16, half: u16, x2: u16, x1: u16, x0: u16, d
 }
 
 // One line. The moved line is made before the step's size is known, for the same reason.
+#[tactic(auto, using(crate::proofs::Filtered::weak_made, crate::proofs::Filtered::weak_kept))]
 pub fn weak_line(largest: u16, tc: u16, p: bool, q: bool, l: Line) -> Line
     ensures { result ≡ weak_line largest tc p q l }
 {

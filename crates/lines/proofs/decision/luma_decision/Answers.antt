@@ -1,9 +1,12 @@
 -- `luma_decision` meets its contract: at each `return` the tests that led there say which case the decision is.
 -- Assumes nothing.
+use Prim.Native.Nat.{◌+◌, ◌*◌}
+use mathlib.Core.Path.{◌≡◌, ◌∙◌}
+use mathlib.Core.Bool.{◌&&◌}
 use Rattle.lines.proofs.Answer.{decision_answered}
-use Rattle.lines.proofs.Decided.{Activities, decided_skip, decided_weak0, decided_weak3, decided_strong}
+use Rattle.lines.proofs.Decided.{Activities, line_flat, decided_skip, decided_weak, decided_strong}
 use Rattle.lines.proofs.decision.luma_decision.Goals as goal
-use Rattle.lines.proofs.decision.luma_decision.Goals.{After-side_activity-dq3, then-d_sam0+else-d_sam3, else-d_sam0}
+use Rattle.lines.proofs.decision.luma_decision.Goals.{After-side_activity-dq3, Joined-d_sam, then-d_sam, else-d_sam}
 
 -- the four activities, as the call has them
 activities : (c : After-side_activity-dq3)
@@ -23,22 +26,30 @@ returns-then-d-beta c =
     decision_answered _ _ _ _ (decided_skip _ _ a c.if-d-beta.true)
     c.with_counts.ensures.decision c.with_counts.ensures.counts
 
-pub returns-then-d_sam3 : goal.returns-then-d_sam3
-returns-then-d_sam3 c =
-    let a = activities (goal.at.returns-then-d_sam3 c).After-side_activity-dq3 in
+-- both lines are flat where line 0 is and, then looked at, line 3
+flat : (c : Joined-d_sam)
+    → c.if-d_sam.strong
+    ≡ (line_flat c.args.beta c.args.tc (2 * (c.side_activity-dp0.result + c.side_activity-dq0.result)) c.args.l0
+    && line_flat c.args.beta c.args.tc (2 * (c.side_activity-dp3.result + c.side_activity-dq3.result)) c.args.l3)
+flat c =
+    rw (← c.d_sam.ensures)
+    (elim c.if-d_sam.branch [
+      | then-d_sam w ↦ rw w.if-d_sam.true (w.strong-is ∙ w.d_sam-strong.ensures)
+      | else-d_sam w ↦ rw w.if-d_sam.false (w.strong-is ∙ w.if-d_sam.false)
+    ])
+
+pub returns-then-strong : goal.returns-then-strong
+returns-then-strong c =
+    let at = goal.at.returns-then-strong c in
     decision_answered _ _ _ _
-    (decided_strong _ _ a c.if-d-beta.false c.d_sam-d_sam0.ensures
-    c.if-d_sam0.true c.d_sam-d_sam3.ensures c.if-d_sam3.true)
-    c.with_counts-then-d_sam3.ensures.decision c.with_counts-then-d_sam3.ensures.counts
+    (decided_strong _ _ (activities at.After-side_activity-dq3) c.if-d-beta.false (flat at.Joined-d_sam)
+    c.if-strong.true)
+    c.with_counts-then-strong.ensures.decision c.with_counts-then-strong.ensures.counts
 
 pub returns : goal.returns
 returns c =
-    let a = activities (goal.at.returns c).After-side_activity-dq3 in
-    let sam0 = c.d_sam-d_sam0.ensures in
+    let at = goal.at.returns c in
     decision_answered _ _ _ _
-    (elim c.if-d_sam0.branch [
-      | then-d_sam0+else-d_sam3 w ↦ decided_weak3 _ _ a c.if-d-beta.false sam0 w.if-d_sam0.true w.d_sam-d_sam3.ensures
-          w.if-d_sam3.false
-      | else-d_sam0 w ↦ decided_weak0 _ _ a c.if-d-beta.false sam0 w.if-d_sam0.false
-    ])
+    (decided_weak _ _ (activities at.After-side_activity-dq3) c.if-d-beta.false (flat at.Joined-d_sam)
+    c.if-strong.false)
     c.with_counts-2.ensures.decision c.with_counts-2.ensures.counts
