@@ -7,6 +7,7 @@ ghost use Rattle.thresholds.specs.Chroma.{table_qpc, chroma_qp, chroma_tc};
 use crate::tables::{qpc_row, scale, tc_row};
 
 // Table 8-10.
+#[tactic(auto, using(crate::proofs::Facts::table_low, crate::proofs::Facts::table_high, crate::proofs::Facts::table_row))]
 fn table_qpc(index: u32) -> u32
     ensures value { result ⊖ 76 ≡ table_qpc (index ⊖ 76) }
     ensures upper_bound { result ≤ index }
@@ -21,6 +22,7 @@ fn table_qpc(index: u32) -> u32
 }
 
 // The chroma QP of an index: format 1 by the table, the others at most 51.
+#[tactic(auto, using(crate::proofs::Facts::qpc_table, crate::proofs::Facts::qpc_other))]
 pub fn qpc(format: u32, index: u32) -> u32
     ensures value { result ⊖ 76 ≡ chroma_qp format (index ⊖ 76) }
     ensures upper_bound { result ≤ index }
@@ -28,10 +30,11 @@ pub fn qpc(format: u32, index: u32) -> u32
     if format == 1 {
         return table_qpc(index);
     }
-    if index < 127 { index } else { 127 }
+    index.min(127)
 }
 
 // tc of Cb or Cr, of an average QP, that component's picture offset and the tc offset of Q's slice; bS is 2
+#[tactic(auto, using(crate::proofs::Facts::chroma_made))]
 pub fn chroma_tc(format: u32, depth: u32, average: u8, pic: u8, offset: u8) -> u16
     requires { (8 ≤ depth) × (depth ≤ 16) }
     ensures { result ≡ chroma_tc format depth (average ⊖ 64) (pic ⊖ 12) (offset ⊖ 6) }

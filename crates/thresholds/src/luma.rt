@@ -7,6 +7,7 @@ ghost use Rattle.thresholds.specs.LumaTable.{TcTable};
 use crate::tables::{beta_row, scale};
 
 // (QpQ + QpP + 1) >> 1, rounded down also below zero: the bytes, 64 more than the QPs, are never below it.
+#[tactic(auto, using(crate::proofs::Facts::average_is))]
 pub fn average_qp(p: u8, q: u8) -> u8
     ensures { result ⊖ 64 ≡ average_qp (p ⊖ 64) (q ⊖ 64) }
 {
@@ -14,6 +15,7 @@ pub fn average_qp(p: u8, q: u8) -> u8
 }
 
 // beta, of an average QP and the beta offset of Q's slice
+#[tactic(auto, using(crate::proofs::Facts::beta_made))]
 pub fn luma_beta(depth: u32, average: u8, offset: u8) -> u16
     requires { (8 ≤ depth) × (depth ≤ 16) }
     ensures { result ≡ luma_beta depth (average ⊖ 64) (offset ⊖ 6) }
@@ -24,6 +26,7 @@ pub fn luma_beta(depth: u32, average: u8, offset: u8) -> u16
 
 // tc, of an average QP, the segment's bS and the tc offset of Q's slice: one look into the table of depth 8, scaled. A
 // negative average gives 0 without a look.
+#[tactic(auto, using(crate::proofs::LumaTable::table_small, crate::proofs::LumaTable::looked_up, crate::proofs::LumaTable::below_0))]
 pub fn luma_tc(tcs: &[u8; 1352], depth: u32, average: u8, bs: u8, offset: u8) -> u16
     requires tc_table { TcTable tcs.now }
     requires depth_bound { (8 ≤ depth) × (depth ≤ 16) }

@@ -7,6 +7,7 @@ ghost use Rattle.thresholds.specs.Luma.{scaled};
 ghost use Rattle.thresholds.specs.Tables.{BETA, TC, QPC};
 
 // Table 8-12, β': rows 0 to 15 are 0; rows 16 to 28 are 6, 7, .. 18; rows 29 to 51 are 20, 22, .. 64.
+#[tactic(auto, using(crate::proofs::Rows::beta_low, crate::proofs::Rows::beta_mid, crate::proofs::Rows::beta_high))]
 pub(crate) fn beta_row(q: usize) -> u16
     requires { q < 52 }
     ensures value { result ≡ get_or BETA q 0 }
@@ -31,6 +32,7 @@ fn packed_row(word: u64, k: usize) -> u16
 
 // Table 8-12, tC': the rows from 8 * group on, a byte to a row, the first in the lowest. Beside each word stand its
 // rows as in the table, the last first. The compiler makes one read of memory of the choice.
+#[tactic(auto, using(crate::proofs::Rows::word_low), unfolding(crate::specs::Code::word_of, crate::specs::Code::packed, crate::specs::Tables::TC))]
 fn tc_word(group: usize) -> u64
     requires { group < 7 }
     ensures { result ≡ word_of TC group }
@@ -45,6 +47,7 @@ fn tc_word(group: usize) -> u64
     }
 }
 
+#[tactic(auto, using(crate::proofs::Rows::tc_made))]
 pub(crate) fn tc_row(q: usize) -> u16
     requires { q < 54 }
     ensures value { result ≡ get_or TC q 0 }
@@ -54,6 +57,7 @@ pub(crate) fn tc_row(q: usize) -> u16
 }
 
 // Table 8-10: rows 0 to 3 are 29, 30, 31, 32; rows 4 to 13 are 33, 33, 34, 34, 35, 35, 36, 36, 37, 37.
+#[tactic(auto, using(crate::proofs::Rows::qpc_low, crate::proofs::Rows::qpc_high))]
 pub(crate) fn qpc_row(q: usize) -> u32
     requires { q < 14 }
     ensures value { result ≡ get_or QPC q 0 }
@@ -66,6 +70,7 @@ pub(crate) fn qpc_row(q: usize) -> u32
 }
 
 // A table's value times 2^(depth - 8).
+#[tactic(auto, using(crate::proofs::Facts::scaled_small), unfolding(crate::specs::Luma::scaled))]
 pub(crate) fn scale(depth: u32, v: u16) -> u16
     requires { (8 ≤ depth) × (depth ≤ 16) × (v ≤ 64) }
     ensures { result ≡ scaled depth v }

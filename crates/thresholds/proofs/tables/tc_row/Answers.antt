@@ -4,11 +4,6 @@ use native.Mathlib.Omega.{arith}
 use Rattle.thresholds.proofs.Rows.{tc_made, rows_most}
 use Rattle.thresholds.proofs.tables.tc_row.Goals as goal
 
-pub returns-clause-value : goal.returns-clause-value
-returns-clause-value c =
-    let row = tc_made _ c.tc_word.ensures c.packed_row.ensures in
-    row
-
 pub returns-clause-upper_bound : goal.returns-clause-upper_bound
 returns-clause-upper_bound c =
     let row = tc_made _ c.tc_word.ensures c.packed_row.ensures in
