@@ -1,21 +1,11 @@
 -- A plane's columns and rows beside luma's, by the chroma format.
-use Prim.Native.Nat.{ℕ, ◌*◌, ◌%◌, ◌≤◌, ◌<◌}
-use mathlib.Core.Path.{◌≡◌, refl}
+use Prim.Native.Nat.{ℕ, ◌%◌, ◌≤◌, ◌<◌}
+use mathlib.Core.Path.{◌≡◌}
 use mathlib.Core.Bool.{Bool, true, false, cond}
 use native.Mathlib.Omega.{arith}
 use borrow.Author.Tests.{ne_eqb}
 use lib.Dec.{eqb}
-use Rattle.picture.specs.Scale.{Sampling, whole, halved, absent, chroma_across, chroma_down, from_luma, to_luma}
-
-pub rows_halved : (format row : ℕ) → format ≡ 1 → 2 * row ≡ to_luma (chroma_down format) row
-rows_halved format row e = rw e
-
-pub rows_whole : (format row : ℕ) → (format ≡ 1 → ⊥) → row ≡ to_luma (chroma_down format) row
-rows_whole format row n = rw (ne_eqb format 1 n) (go (eqb format 0))
-  where
-    go : (t : Bool) → row ≡ to_luma (cond t absent whole) row
-    go true = refl
-    go false = refl
+use Rattle.picture.specs.Scale.{Sampling, whole, halved, absent, chroma_across, chroma_down, from_luma}
 
 -- a plane that has samples in a direction
 abbrev pub Present : Sampling → Type 0

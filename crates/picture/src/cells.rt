@@ -22,24 +22,17 @@ pub fn cell_bytes(columns: CellColumn, rows: usize) -> usize
 }
 
 // Cell record n.
+#[tactic(auto, using(crate::proofs::Records::cell_made))]
 pub fn cell_at(cells: &[u8], n: usize) -> Cell
     requires { 8 * n + 8 ≤ length cells.now }
     ensures { result ≡ cell_at cells.now n }
 {
     let at = 8 * n;
-    let slice = wide(cells[at + 4]) + 256 * wide(cells[at + 5]);
     Cell {
         qp: cells[at],
         flags: cells[at + 1],
         bsv: cells[at + 2],
         bsh: cells[at + 3],
-        slice,
+        slice: u16::from_le_bytes([cells[at + 4], cells[at + 5]]),
     }
-}
-
-fn wide(b: u8) -> u16
-    ensures value { result ≡ b }
-    ensures upper_bound { result < 256 }
-{
-    b as u16
 }

@@ -1,6 +1,7 @@
 // Four counts of columns, each with a type of its own, as px, cx, gx and the CTB shift of the Rust, and the scalings
-// between them. Rows are plain numbers (rows.rt): a loop's counter or an argument beside a typed column, whose unit a
-// contract fixes.
+// between them. One type with its unit as a parameter would be no plainer: document 01 wants a type for each, and each
+// has scalings of its own. Rows are plain numbers (rows.rt): a loop's counter or an argument beside a typed column,
+// whose unit a contract fixes.
 ghost use Rattle.std.specs.Prelude.{◌≡◌, ◌*◌, ◌-◌, ◌≤◌, ◌<◌, ◌^◌};
 ghost use Rattle.picture.specs.Scale.{chroma_across, from_luma, to_luma, cell_of, ctb_of};
 
@@ -40,13 +41,11 @@ impl LumaColumn {
     pub fn chroma(self, format: u32) -> ChromaColumn
         ensures { result.0 ≡ from_luma (chroma_across format) self.0 }
     {
-        if format == 0 {
-            return ChromaColumn(0);
+        match format {
+            0 => ChromaColumn(0),
+            3 => ChromaColumn(self.0),
+            _ => ChromaColumn(self.0 / 2),
         }
-        if format == 3 {
-            return ChromaColumn(self.0);
-        }
-        ChromaColumn(self.0 / 2)
     }
 }
 
@@ -56,12 +55,9 @@ impl ChromaColumn {
         requires { self.0 < 2 ^ 32 }
         ensures { result.0 ≡ to_luma (chroma_across format) self.0 }
     {
-        if format == 0 {
-            return LumaColumn(self.0);
+        match format {
+            0 | 3 => LumaColumn(self.0),
+            _ => LumaColumn(2 * self.0),
         }
-        if format == 3 {
-            return LumaColumn(self.0);
-        }
-        LumaColumn(2 * self.0)
     }
 }

@@ -14,7 +14,9 @@ pub use rows::{chroma_rows, luma_row, row_of_cells, row_of_ctbs};
 pub use slices::slice_at;
 pub use tiles::{same_tile_column, same_tile_row};
 
-// A picture's sizes and settings, as a caller gives them; nothing is in range until it was checked.
+// A picture's sizes and settings, as a caller gives them; nothing is in range until it was checked. The chroma format
+// is no enum: `chroma_rows`, `luma_row` and the columns' scalings answer of any number, and an enum would ask more of
+// callers.
 #[derive(Clone, Copy)]
 pub struct Settings {
     pub width: u32,

@@ -22,13 +22,11 @@ pub fn row_of_ctbs(row: usize, log2: u32) -> usize
 pub fn chroma_rows(format: u32, rows: usize) -> usize
     ensures { result ≡ from_luma (chroma_down format) rows }
 {
-    if format == 0 {
-        return 0;
+    match format {
+        0 => 0,
+        1 => rows / 2,
+        _ => rows,
     }
-    if format == 1 {
-        return rows / 2;
-    }
-    rows
 }
 
 // The luma row that a chroma row stands on.
@@ -36,8 +34,5 @@ pub fn luma_row(format: u32, row: usize) -> usize
     requires { row < 2 ^ 32 }
     ensures { result ≡ to_luma (chroma_down format) row }
 {
-    if format == 1 {
-        return 2 * row;
-    }
-    row
+    if format == 1 { 2 * row } else { row }
 }

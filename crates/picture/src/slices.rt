@@ -13,11 +13,12 @@ const DEFAULT: Slice = Slice {
 };
 
 // Slice record n of a list whose length is a multiple of 4.
+#[tactic(auto, using(crate::proofs::Records::slice_default, crate::proofs::Records::slice_made))]
 pub fn slice_at(slices: &[u8], n: usize) -> Slice
     requires { n < slice_count slices.now }
     ensures { result ≡ slice_at slices.now n }
 {
-    if slices.len() == 0 {
+    if slices.is_empty() {
         return DEFAULT;
     }
     let at = 4 * n;

@@ -5,28 +5,21 @@ ghost use Rattle.picture.specs.Tile.{tile_of};
 use crate::columns::CtbColumn;
 
 // How many starts are not past a CTB.
+#[tactic(auto, using(crate::proofs::Records::starts_counted))]
 fn starts_reached(starts: &[u16], ctb: usize) -> usize
     ensures { result ≡ tile_of starts.now ctb }
 {
-    let mut n = 0;
-    let mut i = 0;
-    while i < starts.len() {
-        if starts[i] as usize <= ctb {
-            n += 1;
-        }
-        i += 1;
-    }
-    n
+    starts
+        .iter()
+        .filter(|start| **start as usize <= ctb)
+        .count()
 }
 
 // Whether two CTBs of one direction lie in one tile. Most pairs are one CTB, which takes no lookup.
 fn same_tile(starts: &[u16], p: usize, q: usize) -> bool
     ensures { result ≡ eqb (tile_of starts.now p) (tile_of starts.now q) }
 {
-    if p == q {
-        return true;
-    }
-    starts_reached(starts, p) == starts_reached(starts, q)
+    p == q || starts_reached(starts, p) == starts_reached(starts, q)
 }
 
 // Whether two columns of CTBs lie in one tile column.

@@ -91,6 +91,8 @@ table_row {i} {r} l h e =
     let n : nat_of (i ⊖ 76 ⊟ pos 30) ≡ i - 106 = simp (diffs, nat_diff) (omega arith) in
     simp (lt-pos, pos-lt, le-ltb i 106 l, le-ltb 119 i h, n) (simp pos_diff (diff_eq _ _ _ _ (omega arith)))
 
+pub ruleset qpc_ranges = (table_low, table_high, table_row)
+
 pub qpc_table : {f : ℕ} (i r : ℕ) → f ≡ 1 → r ⊖ 76 ≡ table_qpc (i ⊖ 76) → r ⊖ 76 ≡ chroma_qp f (i ⊖ 76)
 unfolding chroma_qp
 qpc_table {f} i r e er = simp (eq-eqb f 1 e) er

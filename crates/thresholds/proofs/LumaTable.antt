@@ -128,6 +128,9 @@ pub below_0 : (d a s o : ℕ) → a < 64 → s ≤ 2 → o ≤ 12 → 0 ≡ luma
 below_0 d a s o ha hs ho =
     sym (negative_gives_0 d s (a ⊖ 64) (o ⊖ 6) (lt-pos a 64 0 ∙ lt-ltb a 64 ha) hs (most_in 6 o 6 ho))
 
+-- what a look into the table gives, and an average below it
+pub ruleset tc_looked_up = (table_small, looked_up, below_0)
+
 -- the byte of an average of two QPs that are 51 at the most
 pub average_listed : (a p q : ℕ) → a ⊖ 64 ≡ average_qp (p ⊖ 64) (q ⊖ 64) → p ≤ 115 → q ≤ 115 → a ≤ 115
 average_listed a p q e hp hq =

@@ -120,3 +120,26 @@ unfolding word_of packed TC
 word_low zero h = refl
 word_low (suc zero) h = refl
 word_low (suc (suc g)) h = absurd (omega arith)
+
+-- and the others, by computation
+pub word_16 : 72340172838076416 ≡ word_of TC 2
+unfolding word_of packed TC
+word_16 = refl
+
+pub word_24 : 216737939714015489 ≡ word_of TC 3
+unfolding word_of packed TC
+word_24 = refl
+
+pub word_32 : 361699760366879491 ≡ word_of TC 4
+unfolding word_of packed TC
+word_32 = refl
+
+pub word_40 : 939855981142541830 ≡ word_of TC 5
+unfolding word_of packed TC
+word_40 = refl
+
+pub word_48 : 26483105075214 ≡ word_of TC 6
+unfolding word_of packed TC
+word_48 = refl
+
+pub ruleset tc_words = (word_low, word_16, word_24, word_32, word_40, word_48)

@@ -7,7 +7,7 @@ ghost use Rattle.thresholds.specs.Chroma.{table_qpc, chroma_qp, chroma_tc};
 use crate::tables::{qpc_row, scale, tc_row};
 
 // Table 8-10.
-#[tactic(auto, using(crate::proofs::Facts::table_low, crate::proofs::Facts::table_high, crate::proofs::Facts::table_row))]
+#[tactic(auto, using(crate::proofs::Facts::qpc_ranges))]
 fn table_qpc(index: u32) -> u32
     ensures value { result ⊖ 76 ≡ table_qpc (index ⊖ 76) }
     ensures upper_bound { result ≤ index }
@@ -21,7 +21,8 @@ fn table_qpc(index: u32) -> u32
     }
 }
 
-// The chroma QP of an index: format 1 by the table, the others at most 51.
+// The chroma QP of an index: format 1 by the table, the others at most 51. The format is no enum: `qpc` and `chroma_tc`
+// answer of any number, and an enum would ask more of callers.
 #[tactic(auto, using(crate::proofs::Facts::qpc_table, crate::proofs::Facts::qpc_other))]
 pub fn qpc(format: u32, index: u32) -> u32
     ensures value { result ⊖ 76 ≡ chroma_qp format (index ⊖ 76) }

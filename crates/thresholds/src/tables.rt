@@ -32,7 +32,7 @@ fn packed_row(word: u64, k: usize) -> u16
 
 // Table 8-12, tC': the rows from 8 * group on, a byte to a row, the first in the lowest. Beside each word stand its
 // rows as in the table, the last first. The compiler makes one read of memory of the choice.
-#[tactic(auto, using(crate::proofs::Rows::word_low), unfolding(crate::specs::Code::word_of, crate::specs::Code::packed, crate::specs::Tables::TC))]
+#[tactic(auto, using(crate::proofs::Rows::tc_words))]
 fn tc_word(group: usize) -> u64
     requires { group < 7 }
     ensures { result ≡ word_of TC group }
