@@ -10,7 +10,9 @@ use lib.Pow.{pow_pos}
 use lib.Dec.{T, ltb}
 use lib.IntN.{ℤ, pos, negsuc, neg_ℤ, nat_abs, ◌+ℤ◌, ◌*ℤ◌, +ℤ_assoc, +ℤ_comm, neg_ℤ-+ℤ}
 use lib.Signed.{◌≤ℤ◌, lt_z, shr_z, lt_z_yes, lt_z_no, clash_ℤ}
-use borrow.Author.Tests.{lt-ltb, le-ltb, ltb-true, ltb-false}
+use borrow.Author.Tests.{lt-ltb, le-ltb}
+-- the order of two naturals, to go by
+pub use Rattle.std.proofs.lemmas.Bool.{cases_lt as either}
 use Rattle.ints.specs.Int.{◌⊖◌, ◌⊞◌, ◌⊟◌, neg, ◌⊠◌, lt, ◌>>◌, clip3, abs, nat_of}
 
 pub diff_pos : (a b : ℕ) → b ≤ a → a ⊖ b ≡ pos (a - b)
@@ -20,14 +22,6 @@ diff_pos a b h = simp (le-ltb a b h)
 pub diff_neg : (a b : ℕ) → a < b → a ⊖ b ≡ negsuc (b - suc a)
 unfolding ◌⊖◌
 diff_neg a b h = simp (lt-ltb a b h)
-
--- the order of two naturals, to go by
-pub either : (a b : ℕ) → (a < b) ⊎ (b ≤ a)
-either a b = go (ltb a b) refl
-  where
-    go : (t : Bool) → ltb a b ≡ t → (a < b) ⊎ (b ≤ a)
-    go true e = inl (ltb-true a b e)
-    go false e = inr (ltb-false a b e)
 
 -- two differences are equal where the sums across are
 pub diff_eq : (a b c d : ℕ) → a + d ≡ c + b → a ⊖ b ≡ c ⊖ d
