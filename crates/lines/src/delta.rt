@@ -5,7 +5,6 @@ ghost use Rattle.lines.specs.Code.{clip_delta_n, moved_n};
 
 // Clip3(-t, t, d)
 pub(crate) fn clip_delta(t: u16, d: u32) -> u32
-    requires { d ≤ 131072 }
     ensures { result ≡ clip_delta_n t d }
 {
     let w = t as u32;

@@ -22,7 +22,8 @@ fn same_tile(starts: &[u16], p: usize, q: usize) -> bool
     p == q || starts_reached(starts, p) == starts_reached(starts, q)
 }
 
-// Whether two columns of CTBs lie in one tile column.
+// Whether two columns of CTBs lie in one tile column. README names this function and the one of rows, which stay two: a
+// column has a type of its own, and a row is a plain number.
 pub fn same_tile_column(starts: &[u16], p: CtbColumn, q: CtbColumn) -> bool
     ensures { result ≡ eqb (tile_of starts.now p.0) (tile_of starts.now q.0) }
 {

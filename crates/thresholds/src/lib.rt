@@ -1,6 +1,8 @@
 // The thresholds of a segment (ITU-T H.265, 8.7.2.5.3 and 8.7.2.5.5). All arithmetic is unsigned: a QP arrives as its
 // byte in a cell record, 64 more; a slice's offset as its byte, 6 more; the Cb or Cr offset 12 more. So an index
 // below a table's first row is a truncated subtraction or, of the luma tc, a test, and no number here is ever negative.
+// The depth's bounds stay clauses, and no type has them: README names `luma_beta`, `luma_tc` and `chroma_tc`, which take
+// any number that meets the clauses.
 #![tactic(auto)]
 
 mod chroma;

@@ -25,7 +25,7 @@ pub fn luma_beta(depth: u32, average: u8, offset: u8) -> u16
 }
 
 // tc, of an average QP, the segment's bS and the tc offset of Q's slice: one look into the table of depth 8, scaled. A
-// negative average gives 0 without a look.
+// negative average gives 0 without a look. bS is a number, since the entry's place is a sum with it.
 #[tactic(auto, using(crate::proofs::LumaTable::tc_looked_up))]
 pub fn luma_tc(tcs: &[u8; 1352], depth: u32, average: u8, bs: u8, offset: u8) -> u16
     requires tc_table { TcTable tcs.now }
