@@ -12,7 +12,8 @@ fn clip_near(tc: u16, x: u16, v: u32) -> u16
     ensures { result ≡ near_n tc x v }
 {
     let d = tc.saturating_add(tc);
-    (v as u16).min(x.saturating_add(d)).max(x.saturating_sub(d))
+    // in this nesting, which the compiler makes saturating instructions of, on eight samples at once
+    x.saturating_sub(d).max(x.saturating_add(d).min(v as u16))
 }
 
 // The first, second and third sample of a side: a mean of the samples around it, held near the sample x that it
