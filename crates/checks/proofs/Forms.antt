@@ -3,6 +3,7 @@ use mathlib.Core.Path.{◌≡◌, refl}
 use mathlib.Core.Bool.{Bool}
 use mathlib.Core.List.{List}
 use lib.ListN.{length}
+use Rattle.std.specs.Prelude.{Some}
 use Rattle.picture.specs.Causes.{bad_lists, bad_planes, cause6}
 use Rattle.picture.specs.Ledger.{once}
 use Rattle.picture.specs.Picture.{Picture, Planes}
@@ -11,7 +12,7 @@ use Rattle.checks.specs.Lengths.{bad_lengths, lent_tests, list_tests}
 
 -- what is lent to the stage: three planes
 pub lent_planes : (p : Picture) (planes : Planes)
-    → lent_tests p (Lent.Planes (length planes.y) (length planes.cb) (length planes.cr)) ≡ bad_planes p planes
+    → lent_tests p (Some (Lent.Planes (length planes.y) (length planes.cb) (length planes.cr))) ≡ bad_planes p planes
 lent_planes p planes = refl
 
 pub lists_are : (p : Picture)

@@ -1,9 +1,9 @@
 -- Cause 6 of the ledger. It goes by lengths alone, so what a call is lent to be written is handed over by its lengths.
-use Rattle.std.specs.Prelude.{ℕ, ◌%◌, Bool, not, List, [], ◌∷◌, ◌++◌, eqb, ltb}
+use Rattle.std.specs.Prelude.{ℕ, ◌%◌, Bool, not, List, [], ◌∷◌, ◌++◌, eqb, ltb, Option, Some, None}
 use Rattle.picture.specs.Causes.{bad_cells, bad_lists, bad_plane, bad_planes}
 use Rattle.picture.specs.Picture.{Picture}
 use Rattle.picture.specs.Scale.{Y, Cb, Cr}
-use Rattle.checks.specs.declared.lengths.OutputLengths.TheVariants.{None, Planes, Cells}
+use Rattle.checks.specs.declared.lengths.OutputLengths.TheVariants.{Planes, Cells}
 use Rattle.checks.specs.declared.lengths.OutputLengths.{OutputLengths}
 
 -- bad_planes and bad_lists, by the lengths of the lists (proofs/Forms.antt: they are the same)
@@ -22,10 +22,10 @@ list_tests p cells slices columns rows =
     ∷ []
 
 -- the tests of what is lent to be written: nothing, "three output planes of the same lengths", or a second cell list
-abbrev pub lent_tests : Picture → OutputLengths → List Bool
+abbrev pub lent_tests : Picture → Option OutputLengths → List Bool
 lent_tests p None = []
-lent_tests p (Planes y cb cr) = plane_tests p y cb cr
-lent_tests p (Cells bytes) = bad_cells p bytes ∷ []
+lent_tests p (Some (Planes y cb cr)) = plane_tests p y cb cr
+lent_tests p (Some (Cells bytes)) = bad_cells p bytes ∷ []
 
 -- the tests of cause6, those of what is lent among them
 abbrev pub bad_lengths : List Bool → Picture → List Bool

@@ -3,15 +3,14 @@ ghost use Rattle.std.specs.Prelude.{◌≤◌, ◌≡◌};
 ghost use Rattle.picture.specs.Causes.{bad_cells};
 ghost use Rattle.picture.specs.Given.{bare};
 ghost use Rattle.picture.specs.Ledger.{any_of};
-ghost use Rattle.picture.specs.Lent.{picture_given};
+ghost use Rattle.picture.specs.Lent.{picture_lent};
 ghost use Rattle.checks.specs.Lengths.{bad_lengths, lent_tests, list_tests, plane_tests};
 
-use picture::{LumaColumn, Settings, cell_bytes, chroma_rows, row_of_cells};
+use picture::{LumaColumn, Picture, Settings, cell_bytes, chroma_rows, row_of_cells};
 
 // What a call is lent to be written beside a picture, by its lengths.
 #[derive(Clone, Copy)]
 pub enum OutputLengths {
-    None,
     Planes { y: usize, cb: usize, cr: usize },
     Cells(usize),
 }
@@ -37,15 +36,15 @@ pub fn bad_cell_bytes(settings: Settings, bytes: usize) -> bool
     bytes != cell_bytes(columns, row_of_cells(settings.height as usize))
 }
 
-// What is lent to be written is not of its exact lengths.
-pub fn bad_lent(settings: Settings, lent: OutputLengths) -> bool
+// What is lent to be written, where anything is, is not of its exact lengths.
+pub fn bad_lent(settings: Settings, lent: Option<OutputLengths>) -> bool
     requires { (settings.width ≤ 8192) × (settings.height ≤ 8192) }
     ensures { result ≡ any_of (lent_tests (bare settings) lent) }
 {
     match lent {
-        OutputLengths::None => false,
-        OutputLengths::Planes { y, cb, cr } => bad_planes(settings, y, cb, cr),
-        OutputLengths::Cells(bytes) => bad_cell_bytes(settings, bytes),
+        None => false,
+        Some(OutputLengths::Planes { y, cb, cr }) => bad_planes(settings, y, cb, cr),
+        Some(OutputLengths::Cells(bytes)) => bad_cell_bytes(settings, bytes),
     }
 }
 
@@ -66,28 +65,20 @@ fn bad_lists(settings: Settings, cells: usize, slices: usize, columns: usize, ro
 
 // 6. A plane or the cell list, or what is lent to be written, is not of its exact length; slice bytes not a multiple
 // of 4 or above 2,400; too few or too many tile starts.
-pub fn bad_lengths(
-    settings: Settings,
-    y: &[u16],
-    cb: &[u16],
-    cr: &[u16],
-    cells: &[u8],
-    slices: &[u8],
-    columns: &[u16],
-    rows: &[u16],
-    lent: OutputLengths,
-) -> bool
-    requires { (settings.width ≤ 8192) × (settings.height ≤ 8192) }
-    ensures { result ≡ any_of (bad_lengths (lent_tests (bare settings) lent)
-        (picture_given settings y.now cb.now cr.now cells.now slices.now columns.now rows.now)) }
+pub fn bad_lengths(picture: &Picture<'_>, lent: Option<OutputLengths>) -> bool
+    requires { (picture.now.settings.width ≤ 8192) × (picture.now.settings.height ≤ 8192) }
+    ensures { result ≡ any_of
+        (bad_lengths (lent_tests (bare picture.now.settings) lent) (picture_lent picture.now)) }
 {
-    bad_planes(settings, y.len(), cb.len(), cr.len())
+    let settings = picture.settings;
+    let planes = picture.planes;
+    bad_planes(settings, planes.y.len(), planes.cb.len(), planes.cr.len())
         | bad_lent(settings, lent)
         | bad_lists(
             settings,
-            cells.len(),
-            slices.len(),
-            columns.len(),
-            rows.len(),
+            picture.cells.len(),
+            picture.slices.len(),
+            picture.columns.len(),
+            picture.rows.len(),
         )
 }
