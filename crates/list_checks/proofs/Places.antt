@@ -1,13 +1,41 @@
 -- A search for the first bad entry of a cause: the entries passed are all good.
 use Prim.Native.Nat.{ℕ, ◌+◌, ◌≤◌, ◌<◌}
-use mathlib.Core.Path.{◌≡◌, sym}
+use mathlib.Core.Path.{◌≡◌, refl, sym, ap, ◌∙◌}
 use mathlib.Core.Bool.{true, false}
 use mathlib.Core.Logic.{◌⊎◌, inl, inr}
 use native.Mathlib.Omega.{arith}
 use borrow.Author.Count.{below_more}
+use borrow.Author.Tests.{lt-ltb, le-ltb, ltb-true}
+use lib.Dec.{ltb}
+use Rattle.std.specs.Prelude.{Option, Some, None}
+use Rattle.std.proofs.lemmas.Option.{cond_some, none-some}
 use Rattle.ints.proofs.Laws.{either}
-use Rattle.picture.specs.Ledger.{Cause, and_then, place_of}
-use Rattle.picture.proofs.Ledger.{Good, place_at, place_end, place_good, then_first, then_second}
+use Rattle.picture.specs.Ledger.{Cause, and_then, first_place, place_of}
+use Rattle.picture.proofs.Ledger.{Good, place_at, place_end, place_good, then_first, then_in, then_second}
+
+-- ---- the first place of a cause, by its place
+
+module _ (c : Cause) where
+  pub place_some : {n : ℕ} → n ≡ place_of c → n < c.count → Some n ≡ first_place c
+  place_some {n} e h = rw (sym e, lt-ltb n c.count h) refl
+
+  pub place_none : Good c → None ≡ first_place c
+  place_none good = rw (place_end c good, le-ltb c.count c.count (omega arith)) refl
+
+  -- and back: it is the place, of a bad entry, and where there is none all entries are good
+  pub some_place : {n : ℕ} → first_place c ≡ Some n → (n ≡ place_of c) × (n < c.count)
+  some_place {n} e =
+      let p = cond_some (ltb (place_of c) c.count) (place_of c) n e in
+      (sym p.1, omega (arith, ltb-true (place_of c) c.count p.0, p.1))
+
+  pub no_place : first_place c ≡ None → Good c
+  no_place e k h = go (either (place_of c) c.count)
+    where
+      go : (place_of c < c.count) ⊎ (c.count ≤ place_of c) → c.bad k ≡ false
+      go (inl l) = absurd (none-some (place_of c) (sym e ∙ sym (place_some refl l)))
+      go (inr l) = place_good c k (omega arith)
+
+-- ---- a search among the entries
 
 pub record Passed (c : Cause) (n : ℕ) : Type 0 where
   pub most : n ≤ c.count
@@ -20,28 +48,37 @@ module _ {c : Cause} where
   pub one_more : {n : ℕ} → Passed c n → n < c.count → c.bad n ≡ false → Passed c (n + 1)
   one_more {n} p h b = record { most = omega arith; good = below_more (λ (k : ℕ). c.bad k ≡ false) n p.good b }
 
-  pub found : {n : ℕ} → Passed c n → n < c.count → c.bad n ≡ true → n ≡ place_of c
-  found {n} p h b = sym (place_at c n h p.good b)
+  pub found : {n : ℕ} → Passed c n → n < c.count → c.bad n ≡ true → Some n ≡ first_place c
+  found {n} p h b = place_some c (sym (place_at c n h p.good b)) h
 
-  pub ended : {n : ℕ} → Passed c n → c.count ≤ n → n ≡ place_of c
-  ended {n} p h = omega (arith, place_end c (λ k hk. p.good k (omega arith)))
+  pub ended : {n : ℕ} → Passed c n → c.count ≤ n → None ≡ first_place c
+  ended {n} p h = place_none c (λ k hk. p.good k (omega arith))
 
--- ---- a place that was found
+-- ---- the first place of two causes: in the first, or past all of it in the second
 
-module _ (c : Cause) {r : ℕ} (e : r ≡ place_of c) where
-  pub all_good : c.count ≤ r → Good c
-  all_good h k hk = place_good c k (omega arith)
+pub not_some : {r : Option ℕ} → ((n : ℕ) → r ≡ Some n → ⊥) → r ≡ None
+not_some {r = Some n} h = absurd (h n refl)
+not_some {r = None} h = refl
 
-  pub place_most : r ≤ c.count
-  place_most = go (either r c.count)
-    where
-      go : (r < c.count) ⊎ (c.count ≤ r) → r ≤ c.count
-      go (inl h) = omega arith
-      go (inr h) = omega (arith, place_end c (all_good h))
+module _ (c d : Cause) {r s : Option ℕ} (e : r ≡ first_place c) (f : s ≡ first_place d) where
+  pub in_first : {n : ℕ} → r ≡ Some n → Some n ≡ first_place (and_then c d)
+  in_first {n} some =
+      let p = some_place c (sym e ∙ some) in
+      place_some (and_then c d) (p.0 ∙ sym (then_first c d (omega (arith, p.0, p.1)))) (omega (arith, p.1))
 
-  -- the place of two causes: in the first, or past all of it in the second
-  pub in_first : (d : Cause) → r < c.count → r ≡ place_of (and_then c d)
-  in_first d h = omega (arith, then_first c d (omega arith))
+  -- where none is found in the first
+  module _ (none : (n : ℕ) → r ≡ Some n → ⊥) where
+    good : Good c
+    good = no_place c (sym e ∙ not_some none)
 
-  pub in_second : (d : Cause) → c.count ≤ r → {s : ℕ} → s ≡ place_of d → c.count + s ≡ place_of (and_then c d)
-  in_second d h f = omega (arith, then_second c d (all_good h))
+    pub in_second : {n : ℕ} → s ≡ Some n → Some (c.count + n) ≡ first_place (and_then c d)
+    in_second {n} some =
+        let p = some_place d (sym f ∙ some) in
+        place_some (and_then c d) (ap (λ (i : ℕ). c.count + i) p.0 ∙ sym (then_second c d good)) (omega (arith, p.1))
+
+    pub in_neither : s ≡ None → None ≡ first_place (and_then c d)
+    in_neither none2 = place_none (and_then c d) (then_in c d good (no_place d (sym f ∙ none2)))
+
+    -- a place in the second is among its entries
+    pub place_below : {n : ℕ} → s ≡ Some n → n < d.count
+    place_below some = (some_place d (sym f ∙ some)).1

@@ -13,7 +13,7 @@ use Rattle.ints.proofs.Laws.{either}
 use Rattle.picture.specs.Causes.{Rule, bad_cell, bad_order, bad_slice, broken, cell_rules, cells_cause, edgeless}
 use Rattle.picture.specs.Cell.{cell_at, cell_byte}
 use Rattle.picture.specs.declared.Cell.{Cell}
-use Rattle.picture.specs.Ledger.{Cause, any_of, first_bad, place_of}
+use Rattle.picture.specs.Ledger.{Cause, any_of, first_place}
 use Rattle.picture.specs.Slice.{slice_byte, slice_count}
 use Rattle.picture.proofs.Accepted.{qp_low_test, qp_high_test}
 use Rattle.list_checks.specs.Cells.{bad_qp_byte, bad_record, bad_strength, bad_tail}
@@ -178,9 +178,9 @@ module _ {depth : ℕ} (h : depth ≤ 16) (slices : List ℕ) {count : ℕ} (e :
 
     -- the first bad record is the ledger's
     pub records_place : (rules : List Rule) (m : ℕ)
-        → place_of (records_cause rules (least_byte depth) count cells m)
-        ≡ place_of (cells_cause rules depth slices cells m)
-    records_place rules m = λ i. first_bad (λ n. ruled n i) 0 m
+        → first_place (records_cause rules (least_byte depth) count cells m)
+        ≡ first_place (cells_cause rules depth slices cells m)
+    records_place rules m = λ i. first_place (record { count = m; bad = λ n. ruled n i })
       where
         ruled : (n : ℕ) → (records_cause rules (least_byte depth) count cells m).bad n
             ≡ (cells_cause rules depth slices cells m).bad n

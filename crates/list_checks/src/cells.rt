@@ -2,7 +2,7 @@
 ghost use Rattle.std.specs.Prelude.{◌+◌, ◌*◌, ◌/◌, ◌≤◌, min, cond, ◌++◌, ◌≡◌, length};
 ghost use Rattle.picture.specs.Causes.{broken, cell_rules, cells_cause};
 ghost use Rattle.picture.specs.Cell.{cell_byte};
-ghost use Rattle.picture.specs.Ledger.{any_of, place_of};
+ghost use Rattle.picture.specs.Ledger.{any_of, first_place};
 ghost use Rattle.list_checks.specs.Cells.{bad_qp_byte, bad_record, bad_strength, bad_tail};
 
 use crate::slices::slice_count;
@@ -61,11 +61,10 @@ fn bad_cell_at(cells: &[u8], n: usize, least: u8, count: usize) -> bool
         | bad_tail(cell.slice, cells[at + 6], cells[at + 7], count)
 }
 
-// 9. The first cell out of range, with a slice number not in the list or with a strength that has no edge, or the
-// number of cells where none is.
-pub fn first_bad_cell(cells: &[u8], slices: &[u8], depth: u32) -> usize
+// 9. The first cell out of range, with a slice number not in the list or with a strength that has no edge.
+pub fn first_bad_cell(cells: &[u8], slices: &[u8], depth: u32) -> Option<usize>
     requires { (8 ≤ depth) × (depth ≤ 16) }
-    ensures { result ≡ place_of
+    ensures { result ≡ first_place
         (cells_cause cell_rules depth slices.now cells.now (length cells.now / 8)) }
 {
     let least = (64 - 6 * (depth - 8)) as u8;
@@ -73,9 +72,9 @@ pub fn first_bad_cell(cells: &[u8], slices: &[u8], depth: u32) -> usize
     let mut n = 0;
     while n < cells.len() / 8 {
         if bad_cell_at(cells, n, least, count) {
-            return n;
+            return Some(n);
         }
         n += 1;
     }
-    n
+    None
 }

@@ -1,7 +1,7 @@
 // Cause 7 of the ledger: the slice records.
 ghost use Rattle.std.specs.Prelude.{◌+◌, ◌*◌, ◌≤◌, ◌≡◌, length};
 ghost use Rattle.picture.specs.Causes.{bad_slice, cause7};
-ghost use Rattle.picture.specs.Ledger.{any_of, place_of};
+ghost use Rattle.picture.specs.Ledger.{any_of, first_place};
 ghost use Rattle.picture.specs.Slice.{slice_byte, slice_count};
 
 // How many records a list stands for.
@@ -23,16 +23,16 @@ fn bad_slice_at(slices: &[u8], n: usize) -> bool
     (1 < slices[at]) | (12 < slices[at + 1]) | (12 < slices[at + 2]) | (1 < slices[at + 3])
 }
 
-// 7. The first slice record out of range, or their number where none is.
-pub fn first_bad_slice(slices: &[u8]) -> usize
-    ensures { result ≡ place_of (cause7 slices.now) }
+// 7. The first slice record out of range.
+pub fn first_bad_slice(slices: &[u8]) -> Option<usize>
+    ensures { result ≡ first_place (cause7 slices.now) }
 {
     let mut n = 0;
     while n < slices.len() / 4 {
         if bad_slice_at(slices, n) {
-            return n;
+            return Some(n);
         }
         n += 1;
     }
-    n
+    None
 }

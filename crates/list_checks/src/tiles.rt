@@ -2,7 +2,7 @@
 ghost use Rattle.std.specs.Prelude.{◌+◌, ◌^◌, ◌≤◌, ◌<◌, ◌≡◌, [], ◌∷◌, leb, length, get_or};
 ghost use Rattle.picture.specs.Causes.{bad_order, cause8, starts_cause};
 ghost use Rattle.picture.specs.Given.{picture_of, planes_of};
-ghost use Rattle.picture.specs.Ledger.{any_of, place_of};
+ghost use Rattle.picture.specs.Ledger.{any_of, first_place};
 
 use picture::Settings;
 
@@ -25,32 +25,32 @@ fn bad_start(starts: &[u16], k: usize, ctbs: u32) -> bool
     bad_order(starts, k) | (ctbs <= starts[k] as u32)
 }
 
-// The first start out of rule, of CTBs of this size in this many samples; or the number of starts where none is.
-fn first_bad_start(starts: &[u16], size: u32, total: u32) -> usize
+// The first start out of rule, of CTBs of this size in this many samples.
+fn first_bad_start(starts: &[u16], size: u32, total: u32) -> Option<usize>
     requires { (0 < size) × (total + size < 2 ^ 32) }
-    ensures { result ≡ place_of (starts_cause starts.now size total) }
+    ensures { result ≡ first_place (starts_cause starts.now size total) }
 {
     let ctbs = (total + size - 1) / size;
     let mut k = 0;
     while k < starts.len() {
         if bad_start(starts, k, ctbs) {
-            return k;
+            return Some(k);
         }
         k += 1;
     }
-    k
+    None
 }
 
-// 8. The first tile start out of rule, rows numbered on after the columns; or the number of starts where none is.
-pub fn first_bad_tile(settings: Settings, columns: &[u16], rows: &[u16]) -> usize
+// 8. The first tile start out of rule, rows numbered on after the columns.
+pub fn first_bad_tile(settings: Settings, columns: &[u16], rows: &[u16]) -> Option<usize>
     requires { (settings.width ≤ 8192) × (settings.height ≤ 8192) × (settings.log2_ctb ≤ 6) }
-    ensures { result ≡ place_of (cause8
+    ensures { result ≡ first_place (cause8
         (picture_of settings (planes_of [] [] []) [] [] columns.now rows.now)) }
 {
     let size = 1 << settings.log2_ctb;
-    let column = first_bad_start(columns, size, settings.width);
-    if column < columns.len() {
-        return column;
+    if let Some(column) = first_bad_start(columns, size, settings.width) {
+        return Some(column);
     }
-    columns.len() + first_bad_start(rows, size, settings.height)
+    let row = first_bad_start(rows, size, settings.height)?;
+    Some(columns.len() + row)
 }

@@ -1,7 +1,7 @@
 -- Document 01, 'Refusal ledger': "The result is a number and a place; 0 with place 0 means accepted. The checks run
 -- in this order and the first that applies is returned." A ledger is a list of entries, each a cause under its
 -- number. A cause says how many things it looks at and which of them are bad; its place is the first bad one.
-use Rattle.std.specs.Prelude.{ℕ, zero, suc, ◌+◌, ◌-◌, Bool, true, false, cond, List, [], ◌∷◌, ltb}
+use Rattle.std.specs.Prelude.{ℕ, zero, suc, ◌+◌, ◌-◌, Bool, true, false, cond, List, [], ◌∷◌, ltb, Option, Some, None}
 
 pub record Verdict : Type 0 where
   pub number : ℕ
@@ -22,6 +22,10 @@ first_bad bad k (suc n) = let r = first_bad bad (suc k) n in cond (bad k) k r
 
 abbrev pub place_of : Cause → ℕ
 place_of c = first_bad c.bad 0 c.count
+
+-- the same as an option: the first bad one, or none where no entry is bad
+abbrev pub first_place : Cause → Option ℕ
+first_place c = cond (ltb (place_of c) c.count) (Some (place_of c)) None
 
 -- a cause under its number
 pub record Entry : Type 0 where

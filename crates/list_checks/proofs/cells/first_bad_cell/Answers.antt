@@ -6,7 +6,7 @@ use mathlib.Core.Path.{◌≡◌, sym, ◌∙◌}
 use native.Mathlib.Omega.{arith}
 use lib.ListN.{length}
 use Rattle.picture.specs.Causes.{cell_rules, cells_cause}
-use Rattle.picture.specs.Ledger.{Cause, place_of}
+use Rattle.picture.specs.Ledger.{Cause, first_place}
 use Rattle.list_checks.proofs.Places.{none_yet, one_more, found, ended}
 use Rattle.list_checks.proofs.Records.{least_byte, records_cause, records_place}
 use Rattle.list_checks.proofs.cells.first_bad_cell.Goals as goal
@@ -23,7 +23,7 @@ returns-then-bad_cell_at c =
     let cells : Cause =
     let a = c.args in
     cells_cause cell_rules a.depth a.slices.now a.cells.now (length a.cells.now / 8) in
-    let placed : place_of tried ≡ place_of cells =
+    let placed : first_place tried ≡ first_place cells =
     let a = c.args in
     records_place c.requires.1 a.slices.now c.slice_count-count.ensures a.cells.now cell_rules
     (length a.cells.now / 8) in
@@ -41,7 +41,7 @@ returns c =
     let cells : Cause =
     let a = c.args in
     cells_cause cell_rules a.depth a.slices.now a.cells.now (length a.cells.now / 8) in
-    let placed : place_of tried ≡ place_of cells =
+    let placed : first_place tried ≡ first_place cells =
     let a = c.args in
     records_place c.requires.1 a.slices.now c.slice_count-count.ensures a.cells.now cell_rules
     (length a.cells.now / 8) in

@@ -1,74 +1,55 @@
 -- `first_bad_original` meets its contract: the place found in a plane, numbered on after the planes before it.
 -- Assumes nothing.
-use Prim.Native.Nat.{◌≤◌}
-use mathlib.Core.Path.{◌≡◌}
-use native.Mathlib.Omega.{arith}
+use Rattle.std.proofs.Common.{◌≡◌, ◌∙◌, refl}
 use Rattle.picture.specs.Causes.{samples_cause}
-use Rattle.picture.specs.Given.{of_planes, planes_of}
-use Rattle.picture.specs.Ledger.{Cause, and_then, place_of}
-use Rattle.picture.specs.Scale.{Component, Y, Cb, Cr}
-use Rattle.list_checks.proofs.Places.{place_most, in_first, in_second}
+use Rattle.picture.specs.Given.{of_planes}
+use Rattle.picture.specs.Ledger.{and_then, first_place}
+use Rattle.picture.specs.Lent.{planes_lent}
+use Rattle.picture.specs.Picture.{Picture}
+use Rattle.picture.specs.Scale.{Y, Cb, Cr}
+use Rattle.list_checks.proofs.Places.{in_first, in_neither, in_second}
 use Rattle.list_checks.proofs.samples.first_bad_original.Goals as goal
 
-pub returns-then-in_y-y : goal.returns-then-in_y-y
-returns-then-in_y-y c =
-    let plane : Component → Cause =
-    let a = c.args in
-    samples_cause (of_planes a.settings (planes_of a.y.now a.cb.now a.cr.now)) in
-    let chroma : Cause =
-    and_then (plane Cb) (plane Cr) in
-    let in-y : c.first_bad_sample-in_y.result ≡ place_of (plane Y) =
-    rw c.largest_at.ensures at c.first_bad_sample-in_y.ensures in
-    in_first (plane Y) in-y chroma c.if-in_y-y.true
+pub returns-in-Some : goal.returns-in-Some
+returns-in-Some c =
+    let p : Picture = of_planes c.args.settings (planes_lent c.args.planes.now) in
+    let in-y : c.first_bad_sample.result ≡ first_place (samples_cause p Y) =
+    rw c.largest_at.ensures at c.first_bad_sample.ensures in
+    in_first (samples_cause p Y) (and_then (samples_cause p Cb) (samples_cause p Cr)) in-y refl c.in-Some.is
 
-pub returns-then-in_cb-cb : goal.returns-then-in_cb-cb
-returns-then-in_cb-cb c =
-    let plane : Component → Cause =
-    let a = c.args in
-    samples_cause (of_planes a.settings (planes_of a.y.now a.cb.now a.cr.now)) in
-    let chroma : Cause =
-    and_then (plane Cb) (plane Cr) in
-    let in-y : c.first_bad_sample-in_y.result ≡ place_of (plane Y) =
-    rw c.largest_at.ensures at c.first_bad_sample-in_y.ensures in
-    let in-cb : c.first_bad_sample-in_cb.result ≡ place_of (plane Cb) =
-    rw c.largest_at-largest.ensures at c.first_bad_sample-in_cb.ensures in
-    in_second (plane Y) in-y chroma c.if-in_y-y.false
-    (in_first (plane Cb) in-cb (plane Cr) c.if-in_cb-cb.true)
+pub returns-in-Some-first_bad_sample : goal.returns-in-Some-first_bad_sample
+returns-in-Some-first_bad_sample c =
+    let p : Picture = of_planes c.args.settings (planes_lent c.args.planes.now) in
+    let in-y : c.first_bad_sample.result ≡ first_place (samples_cause p Y) =
+    rw c.largest_at.ensures at c.first_bad_sample.ensures in
+    let in-cb : c.first_bad_sample-2.result ≡ first_place (samples_cause p Cb) =
+    rw c.largest_at-largest.ensures at c.first_bad_sample-2.ensures in
+    in_second (samples_cause p Y) (and_then (samples_cause p Cb) (samples_cause p Cr)) in-y
+    (in_first (samples_cause p Cb) (samples_cause p Cr) in-cb refl c.in-Some-first_bad_sample.is) c.in_default.not-Some refl
 
-pub overflow_add-result-2 : goal.overflow_add-result-2
-overflow_add-result-2 c =
-    let plane : Component → Cause =
-    let a = c.args in
-    samples_cause (of_planes a.settings (planes_of a.y.now a.cb.now a.cr.now)) in
-    let in-cr : c.first_bad_sample.result ≡ place_of (plane Cr) =
-    rw c.largest_at-largest.ensures at c.first_bad_sample.ensures in
-    let cr-most : c.first_bad_sample.result ≤ (plane Cr).count =
-    place_most (plane Cr) in-cr in
-    omega (arith, cr-most)
-
-pub overflow_add-result-3 : goal.overflow_add-result-3
-overflow_add-result-3 c =
-    let plane : Component → Cause =
-    let a = c.args in
-    samples_cause (of_planes a.settings (planes_of a.y.now a.cb.now a.cr.now)) in
-    let in-cr : c.first_bad_sample.result ≡ place_of (plane Cr) =
-    rw c.largest_at-largest.ensures at c.first_bad_sample.ensures in
-    let cr-most : c.first_bad_sample.result ≤ (plane Cr).count =
-    place_most (plane Cr) in-cr in
-    omega (arith, cr-most)
+pub returns-in_err-k : goal.returns-in_err-k
+returns-in_err-k c =
+    let p : Picture = of_planes c.args.settings (planes_lent c.args.planes.now) in
+    let in-y : c.first_bad_sample.result ≡ first_place (samples_cause p Y) =
+    rw c.largest_at.ensures at c.first_bad_sample.ensures in
+    let in-cb : c.first_bad_sample-2.result ≡ first_place (samples_cause p Cb) =
+    rw c.largest_at-largest.ensures at c.first_bad_sample-2.ensures in
+    let in-cr : c.first_bad_sample-3.result ≡ first_place (samples_cause p Cr) =
+    rw c.largest_at-largest.ensures at c.first_bad_sample-3.ensures in
+    c.from_residual.ensures
+    ∙ in_neither (samples_cause p Y) (and_then (samples_cause p Cb) (samples_cause p Cr)) in-y
+    (in_neither (samples_cause p Cb) (samples_cause p Cr) in-cb in-cr c.in_default-first_bad_sample.not-Some c.in_err-k.was)
+    c.in_default.not-Some refl
 
 pub returns : goal.returns
 returns c =
-    let plane : Component → Cause =
-    let a = c.args in
-    samples_cause (of_planes a.settings (planes_of a.y.now a.cb.now a.cr.now)) in
-    let chroma : Cause =
-    and_then (plane Cb) (plane Cr) in
-    let in-y : c.first_bad_sample-in_y.result ≡ place_of (plane Y) =
-    rw c.largest_at.ensures at c.first_bad_sample-in_y.ensures in
-    let in-cb : c.first_bad_sample-in_cb.result ≡ place_of (plane Cb) =
-    rw c.largest_at-largest.ensures at c.first_bad_sample-in_cb.ensures in
-    let in-cr : c.first_bad_sample.result ≡ place_of (plane Cr) =
-    rw c.largest_at-largest.ensures at c.first_bad_sample.ensures in
-    in_second (plane Y) in-y chroma c.if-in_y-y.false
-    (in_second (plane Cb) in-cb (plane Cr) c.if-in_cb-cb.false in-cr)
+    let p : Picture = of_planes c.args.settings (planes_lent c.args.planes.now) in
+    let in-y : c.first_bad_sample.result ≡ first_place (samples_cause p Y) =
+    rw c.largest_at.ensures at c.first_bad_sample.ensures in
+    let in-cb : c.first_bad_sample-2.result ≡ first_place (samples_cause p Cb) =
+    rw c.largest_at-largest.ensures at c.first_bad_sample-2.ensures in
+    let in-cr : c.first_bad_sample-3.result ≡ first_place (samples_cause p Cr) =
+    rw c.largest_at-largest.ensures at c.first_bad_sample-3.ensures in
+    in_second (samples_cause p Y) (and_then (samples_cause p Cb) (samples_cause p Cr)) in-y
+    (in_second (samples_cause p Cb) (samples_cause p Cr) in-cb in-cr c.in_default-first_bad_sample.not-Some c.in_ok-k.was)
+    c.in_default.not-Some refl

@@ -1,73 +1,58 @@
 -- `first_bad_tile` meets its contract: the place found in the columns, or in the rows, numbered on.
 -- Assumes nothing.
-use Prim.Native.Nat.{ℕ, ◌*◌, ◌%◌, ◌^◌, ◌≤◌, ◌<◌}
-use mathlib.Core.Path.{◌≡◌}
-use mathlib.Core.List.{List}
-use native.Mathlib.Omega.{arith}
+use Rattle.std.proofs.Common.{ℕ, ◌≡◌, ◌*◌, ◌%◌, ◌^◌, ◌≤◌, ◌<◌, List, arith, refl, ◌∙◌}
 use Rattle.ints.proofs.Powers.{power_least, power_most, shifted}
 use Rattle.picture.specs.Causes.{starts_cause}
-use Rattle.picture.specs.Ledger.{Cause, place_of}
-use Rattle.list_checks.proofs.Places.{place_most, in_first, in_second}
+use Rattle.picture.specs.Ledger.{Cause, first_place}
+use Rattle.list_checks.proofs.Places.{in_first, in_neither, in_second}
 use Rattle.list_checks.proofs.tiles.first_bad_tile.Goals as goal
 
-pub first_bad_start-column-requires : goal.first_bad_start-column-requires
-first_bad_start-column-requires c =
-    let size : 1 * 2 ^ c.args.settings.log2_ctb % 4294967296 ≡ 2 ^ c.args.settings.log2_ctb =
-    shifted c.args.settings.log2_ctb (omega arith) in
-    let size_small : let log2 = c.args.settings.log2_ctb in
-    (0 < 1 * 2 ^ log2 % 4294967296) × (1 * 2 ^ log2 % 4294967296 ≤ 65536) =
-    let log2 = c.args.settings.log2_ctb in
-    rw size (omega (arith, power_least log2, power_most log2 (omega arith))) in
-    omega (arith, size_small)
+-- the size of a CTB, as the code shifts it
+size_of : (log2 : ℕ) → log2 ≤ 6 → 1 * 2 ^ log2 % 4294967296 ≡ 2 ^ log2
+size_of log2 h = shifted log2 (omega arith)
 
-pub returns-then-column-columns : goal.returns-then-column-columns
-returns-then-column-columns c =
-    let starts : List ℕ → ℕ → Cause =
-    λ list total. starts_cause list (2 ^ c.args.settings.log2_ctb) total in
-    let columns : Cause =
-    starts c.args.columns.now c.args.settings.width in
-    let rows : Cause =
-    starts c.args.rows.now c.args.settings.height in
-    let size : 1 * 2 ^ c.args.settings.log2_ctb % 4294967296 ≡ 2 ^ c.args.settings.log2_ctb =
-    shifted c.args.settings.log2_ctb (omega arith) in
-    let across : c.first_bad_start-column.result ≡ place_of columns =
-    rw size at c.first_bad_start-column.ensures in
-    in_first columns across rows c.if-column-columns.true
+size_small : (log2 : ℕ) → log2 ≤ 6 → (0 < 1 * 2 ^ log2 % 4294967296) × (1 * 2 ^ log2 % 4294967296 ≤ 65536)
+size_small log2 h = rw (size_of log2 h) (omega (arith, power_least log2, power_most log2 (omega arith)))
 
 pub first_bad_start-requires : goal.first_bad_start-requires
 first_bad_start-requires c =
-    let size : 1 * 2 ^ c.args.settings.log2_ctb % 4294967296 ≡ 2 ^ c.args.settings.log2_ctb =
-    shifted c.args.settings.log2_ctb (omega arith) in
-    let size_small : let log2 = c.args.settings.log2_ctb in
-    (0 < 1 * 2 ^ log2 % 4294967296) × (1 * 2 ^ log2 % 4294967296 ≤ 65536) =
-    let log2 = c.args.settings.log2_ctb in
-    rw size (omega (arith, power_least log2, power_most log2 (omega arith))) in
-    omega (arith, size_small)
+    omega (arith, size_small c.args.settings.log2_ctb (omega arith))
 
-pub overflow_add-result : goal.overflow_add-result
-overflow_add-result c =
-    let starts : List ℕ → ℕ → Cause =
-    λ list total. starts_cause list (2 ^ c.args.settings.log2_ctb) total in
-    let rows : Cause =
-    starts c.args.rows.now c.args.settings.height in
-    let size : 1 * 2 ^ c.args.settings.log2_ctb % 4294967296 ≡ 2 ^ c.args.settings.log2_ctb =
-    shifted c.args.settings.log2_ctb (omega arith) in
-    let down : c.first_bad_start.result ≡ place_of rows =
+pub first_bad_start-requires-2 : goal.first_bad_start-requires-2
+first_bad_start-requires-2 c =
+    omega (arith, size_small c.args.settings.log2_ctb (omega arith))
+
+abbrev starts : List ℕ → ℕ → ℕ → Cause
+starts list log2 total = starts_cause list (2 ^ log2) total
+
+pub returns-in-Some : goal.returns-in-Some
+returns-in-Some c =
+    let s = c.args.settings in
+    let size = size_of s.log2_ctb (omega arith) in
+    let across : c.first_bad_start.result ≡ first_place (starts c.args.columns.now s.log2_ctb s.width) =
     rw size at c.first_bad_start.ensures in
-    omega (arith, place_most rows down)
+    in_first (starts c.args.columns.now s.log2_ctb s.width) (starts c.args.rows.now s.log2_ctb s.height) across refl
+    c.in-Some.is
+
+pub returns-in_err-row : goal.returns-in_err-row
+returns-in_err-row c =
+    let s = c.args.settings in
+    let size = size_of s.log2_ctb (omega arith) in
+    let across : c.first_bad_start.result ≡ first_place (starts c.args.columns.now s.log2_ctb s.width) =
+    rw size at c.first_bad_start.ensures in
+    let down : c.first_bad_start-2.result ≡ first_place (starts c.args.rows.now s.log2_ctb s.height) =
+    rw size at c.first_bad_start-2.ensures in
+    c.from_residual.ensures
+    ∙ in_neither (starts c.args.columns.now s.log2_ctb s.width) (starts c.args.rows.now s.log2_ctb s.height) across
+    down c.in_default.not-Some c.in_err-row.was
 
 pub returns : goal.returns
 returns c =
-    let starts : List ℕ → ℕ → Cause =
-    λ list total. starts_cause list (2 ^ c.args.settings.log2_ctb) total in
-    let columns : Cause =
-    starts c.args.columns.now c.args.settings.width in
-    let rows : Cause =
-    starts c.args.rows.now c.args.settings.height in
-    let size : 1 * 2 ^ c.args.settings.log2_ctb % 4294967296 ≡ 2 ^ c.args.settings.log2_ctb =
-    shifted c.args.settings.log2_ctb (omega arith) in
-    let across : c.first_bad_start-column.result ≡ place_of columns =
-    rw size at c.first_bad_start-column.ensures in
-    let down : c.first_bad_start.result ≡ place_of rows =
+    let s = c.args.settings in
+    let size = size_of s.log2_ctb (omega arith) in
+    let across : c.first_bad_start.result ≡ first_place (starts c.args.columns.now s.log2_ctb s.width) =
     rw size at c.first_bad_start.ensures in
-    in_second columns across rows c.if-column-columns.false down
+    let down : c.first_bad_start-2.result ≡ first_place (starts c.args.rows.now s.log2_ctb s.height) =
+    rw size at c.first_bad_start-2.ensures in
+    in_second (starts c.args.columns.now s.log2_ctb s.width) (starts c.args.rows.now s.log2_ctb s.height) across
+    down c.in_default.not-Some c.in_ok-row.was
