@@ -6,21 +6,22 @@ use mathlib.Core.List.{List, [], ◌∷◌, ◌++◌}
 use native.Mathlib.Omega.{arith}
 use lib.Dec.{ltb}
 use lib.ListN.{length}
+use Rattle.std.specs.Prelude.{Option, Some, Result, Ok, Err}
 use Rattle.picture.specs.Causes.{Rule, bad_ctb, bad_depths, bad_lists, bad_planes, bad_size}
 use Rattle.picture.specs.Causes.{cause1, cause6, cause9, cells_cause, ledger}
 use Rattle.picture.specs.Cell.{cell_count}
 use Rattle.picture.specs.declared.Settings as Code
 use Rattle.picture.specs.Given.{bare, picture_of, settings_of}
-use Rattle.picture.specs.Ledger.{Cause, Entry, Verdict, any_of, entry, first_bad, first_of, once, place_of}
+use Rattle.picture.specs.Ledger.{Cause, Entry, Verdict, any_of, entry, first_of, first_place, once, place_of}
 use Rattle.picture.specs.Picture.{Picture, Planes}
 use Rattle.picture.proofs.Ledger.{AllGood, AllNumbered, Good, NoneOf, good_out, none_out, none_part, once_out}
 use Rattle.picture.proofs.Ledger.{passed, returned, to_fact}
 use Rattle.checks.specs.Lengths.{bad_lengths}
-use Rattle.list_checks.proofs.Places.{all_good}
-use Rattle.ledger.specs.declared.Verdict as Told
-use Rattle.ledger.specs.declared.Verdict.TheVariants.{Accepted}
-use Rattle.ledger.specs.Numbered.{numbered}
+use Rattle.list_checks.proofs.Places.{no_place, not_some, some_place}
+use Rattle.ledger.specs.declared.Refusal.{Refusal}
+use Rattle.ledger.specs.Numbered.{numbered, refused}
 use Rattle.ledger.specs.Parts.{Settled, lists_part, settings_part}
+use Rattle.ledger.proofs.Refusals.{refuses}
 
 -- the answer v is left to the entries l
 pub record LeftTo (v : Verdict) (l : List Entry) : Type 0 where
@@ -48,22 +49,24 @@ module _ (tests : List Bool) {b : Bool} (e : b ≡ any_of tests) {v : Verdict} {
 
 -- ---- a cause whose first bad entry was looked for
 
-module _ (c : Cause) {k : ℕ} (e : k ≡ place_of c) {v : Verdict} {n : ℕ} {r : List Entry}
+module _ (c : Cause) {k : Option ℕ} (e : k ≡ first_place c) {v : Verdict} {n : ℕ} {r : List Entry}
     (left : LeftTo v (entry n c ∷ r)) where
-  pub stops_at : k < c.count → record { number = n; place = k } ≡ v
-  stops_at h =
-      ap (λ (i : ℕ). record { number = n; place = i }) e ∙ sym (left.answer ∙ returned c n r (omega arith))
+  pub stops_at : {i : ℕ} → k ≡ Some i → record { number = n; place = i } ≡ v
+  stops_at {i} some =
+      let p = some_place c (sym e ∙ some) in
+      ap (λ (j : ℕ). record { number = n; place = j }) p.0
+      ∙ sym (left.answer ∙ returned c n r (omega (arith, p.0, p.1)))
 
-  pub goes_past : c.count ≤ k → LeftTo v r
-  goes_past h = record { answer = left.answer ∙ passed c n r (all_good c e h) }
+  pub goes_past : ((i : ℕ) → k ≡ Some i → ⊥) → LeftTo v r
+  goes_past none = record { answer = left.answer ∙ passed c n r (no_place c (sym e ∙ not_some none)) }
 
 -- a cell list of its exact length
-pub cells_place : (rules : List Rule) (p : Picture) → length p.cells ≡ 8 * cell_count p → {k : ℕ}
-    → k ≡ place_of (cells_cause rules p.settings.luma_depth p.slices p.cells (length p.cells / 8))
-    → k ≡ place_of (cause9 rules p)
+pub cells_place : (rules : List Rule) (p : Picture) → length p.cells ≡ 8 * cell_count p → {k : Option ℕ}
+    → k ≡ first_place (cells_cause rules p.settings.luma_depth p.slices p.cells (length p.cells / 8))
+    → k ≡ first_place (cause9 rules p)
 cells_place rules p h e =
     let count : length p.cells / 8 ≡ cell_count p = omega arith in
-    e ∙ ap (first_bad (cause9 rules p).bad 0) count
+    e ∙ ap (λ (m : ℕ). first_place (cells_cause rules p.settings.luma_depth p.slices p.cells m)) count
 
 -- ---- the ledger's first entries and the others
 
@@ -85,23 +88,29 @@ refused_by (d ∷ r) m {v} e h =
     go true e next = e
     go false e next = next e
 
+-- so is one that `?` passes on
+pub passed_on : (l m : List Entry) {r s : Result (Unit {0}) Refusal} {x y : Refusal} → numbered r ≡ first_of l
+    → r ≡ Err x → s ≡ Err y → y ≡ x → numbered s ≡ first_of (l ++ m)
+passed_on l m {x = x} e f g h =
+    ap numbered g ∙ ap refused h ∙ refused_by l m (sym (ap numbered f) ∙ e) (refuses x)
+
 -- where none of them applies the answer is left to the others
 pub goes_past_all : (l m : List Entry) {v : Verdict} → AllGood l → LeftTo v (l ++ m) → LeftTo v m
 goes_past_all [] m h left = left
 goes_past_all (d ∷ r) m h left =
     goes_past_all r m h.1 (record { answer = left.answer ∙ passed d.cause d.number (r ++ m) h.0 })
 
--- ---- the answer of the first ones, by the enum that they are told with
+-- ---- the answer of the first ones, as they are told
 
 -- acceptance says that none of them applies
-pub told_good : (l : List Entry) → AllNumbered l → {r : Told.Verdict} → numbered r ≡ first_of l → r ≡ Accepted
-    → AllGood l
+pub told_good : (l : List Entry) → AllNumbered l → {r : Result (Unit {0}) Refusal} → numbered r ≡ first_of l
+    → r ≡ Ok tt → AllGood l
 told_good l all e accepted =
     good_out l all (ap (λ (v : Verdict). v.number) (sym e ∙ ap numbered accepted))
 
 -- so the answer is left to the others
-pub told_past : (l m : List Entry) → AllNumbered l → {r : Told.Verdict} {v : Verdict} → numbered r ≡ first_of l
-    → r ≡ Accepted → LeftTo v (l ++ m) → LeftTo v m
+pub told_past : (l m : List Entry) → AllNumbered l → {r : Result (Unit {0}) Refusal} {v : Verdict}
+    → numbered r ≡ first_of l → r ≡ Ok tt → LeftTo v (l ++ m) → LeftTo v m
 told_past l m all e accepted left = goes_past_all l m (told_good l all e accepted) left
 
 -- ---- what causes 1 to 6 leave where they do not apply

@@ -1,19 +1,18 @@
--- A verdict that is not the first variant is a refusal: its number is not 0.
-use Rattle.std.proofs.Common.{◌≡◌, refl, ◌<◌, arith}
-use Rattle.ledger.specs.declared.Verdict.TheVariants.{Accepted, Size, Format, Depth, CtbSize, Offset}
-use Rattle.ledger.specs.declared.Verdict.TheVariants.{Lengths, Slice, TileStart, Cell, Sample}
-use Rattle.ledger.specs.declared.Verdict.{Verdict}
-use Rattle.ledger.specs.Numbered.{numbered}
+-- A refusal's number is not that of acceptance.
+use Rattle.std.proofs.Common.{◌<◌, arith}
+use Rattle.ledger.specs.declared.Refusal.TheVariants.{Size, Format, Depth, CtbSize, Offset}
+use Rattle.ledger.specs.declared.Refusal.TheVariants.{Lengths, Slice, TileStart, Cell, Sample}
+use Rattle.ledger.specs.declared.Refusal.{Refusal}
+use Rattle.ledger.specs.Numbered.{refused}
 
-pub refuses : (r : Verdict) → (r ≡ Accepted → ⊥) → 0 < (numbered r).number
-refuses Accepted h = absurd (h refl)
-refuses Size h = omega arith
-refuses Format h = omega arith
-refuses Depth h = omega arith
-refuses CtbSize h = omega arith
-refuses Offset h = omega arith
-refuses Lengths h = omega arith
-refuses (Slice n) h = omega arith
-refuses (TileStart n) h = omega arith
-refuses (Cell n) h = omega arith
-refuses (Sample n) h = omega arith
+pub refuses : (r : Refusal) → 0 < (refused r).number
+refuses Size = omega arith
+refuses Format = omega arith
+refuses Depth = omega arith
+refuses CtbSize = omega arith
+refuses Offset = omega arith
+refuses Lengths = omega arith
+refuses (Slice n) = omega arith
+refuses (TileStart n) = omega arith
+refuses (Cell n) = omega arith
+refuses (Sample n) = omega arith

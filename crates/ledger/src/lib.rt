@@ -11,10 +11,9 @@ pub use numbers::{number_of, place_of};
 pub use order::check;
 pub use planes::check_planes;
 
-// What the ledger answers. A place is that of the first bad record, start, cell or sample.
-#[derive(Clone, Copy)]
-pub enum Verdict {
-    Accepted,
+// A cause of the ledger that applies. A place is that of the first bad record, start, cell or sample.
+#[derive(Clone, Copy, PartialEq, Eq, Debug)]
+pub enum Refusal {
     Size,
     Format,
     Depth,
@@ -26,3 +25,6 @@ pub enum Verdict {
     Cell(usize),
     Sample(usize),
 }
+
+// What the ledger answers: nothing where it accepts.
+pub type Verdict = Result<(), Refusal>;

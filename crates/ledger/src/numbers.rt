@@ -1,25 +1,49 @@
 // An answer as two numbers, for a caller that has no such enum.
 ghost use Rattle.std.specs.Prelude.{◌≡◌};
-ghost use Rattle.ledger.specs.Numbered.{numbered};
+ghost use Rattle.ledger.specs.Numbered.{numbered, refused};
 
-use crate::Verdict;
+use crate::{Refusal, Verdict};
 
-// The ledger's number of an answer.
+impl Refusal {
+    // The ledger's number of a refusal.
+    pub fn number(self) -> u32
+        ensures { result ≡ (refused self).number }
+    {
+        match self {
+            Refusal::Size => 1,
+            Refusal::Format => 2,
+            Refusal::Depth => 3,
+            Refusal::CtbSize => 4,
+            Refusal::Offset => 5,
+            Refusal::Lengths => 6,
+            Refusal::Slice(_) => 7,
+            Refusal::TileStart(_) => 8,
+            Refusal::Cell(_) => 9,
+            Refusal::Sample(_) => 10,
+        }
+    }
+
+    // The ledger's place of a refusal: 0 where it names none.
+    pub fn place(self) -> u64
+        ensures { result ≡ (refused self).place }
+    {
+        match self {
+            Refusal::Slice(record) => record as u64,
+            Refusal::TileStart(entry) => entry as u64,
+            Refusal::Cell(cell) => cell as u64,
+            Refusal::Sample(sample) => sample as u64,
+            _ => 0,
+        }
+    }
+}
+
+// The ledger's number of an answer: 0 is acceptance.
 pub fn number_of(answer: Verdict) -> u32
     ensures { result ≡ (numbered answer).number }
 {
     match answer {
-        Verdict::Accepted => 0,
-        Verdict::Size => 1,
-        Verdict::Format => 2,
-        Verdict::Depth => 3,
-        Verdict::CtbSize => 4,
-        Verdict::Offset => 5,
-        Verdict::Lengths => 6,
-        Verdict::Slice(_) => 7,
-        Verdict::TileStart(_) => 8,
-        Verdict::Cell(_) => 9,
-        Verdict::Sample(_) => 10,
+        Ok(()) => 0,
+        Err(refusal) => refusal.number(),
     }
 }
 
@@ -28,16 +52,7 @@ pub fn place_of(answer: Verdict) -> u64
     ensures { result ≡ (numbered answer).place }
 {
     match answer {
-        Verdict::Accepted => 0,
-        Verdict::Size => 0,
-        Verdict::Format => 0,
-        Verdict::Depth => 0,
-        Verdict::CtbSize => 0,
-        Verdict::Offset => 0,
-        Verdict::Lengths => 0,
-        Verdict::Slice(record) => record as u64,
-        Verdict::TileStart(entry) => entry as u64,
-        Verdict::Cell(cell) => cell as u64,
-        Verdict::Sample(sample) => sample as u64,
+        Ok(()) => 0,
+        Err(refusal) => refusal.place(),
     }
 }

@@ -5,7 +5,7 @@ ghost use Rattle.picture.specs.Ledger.{first_of};
 ghost use Rattle.ledger.specs.Numbered.{numbered};
 ghost use Rattle.ledger.specs.Parts.{format_part, settings_part};
 
-use crate::Verdict;
+use crate::{Refusal, Verdict};
 use checks::{bad_ctb, bad_depths, bad_format, bad_offsets, bad_sizes};
 use picture::Settings;
 
@@ -14,30 +14,27 @@ pub fn check_format(settings: Settings) -> Verdict
     ensures { numbered result ≡ first_of (format_part (bare settings)) }
 {
     if bad_sizes(settings) {
-        return Verdict::Size;
+        return Err(Refusal::Size);
     }
     if bad_format(settings) {
-        return Verdict::Format;
+        return Err(Refusal::Format);
     }
-    Verdict::Accepted
+    Ok(())
 }
 
 // Causes 1 to 5.
 pub fn check_settings(settings: Settings) -> Verdict
     ensures { numbered result ≡ first_of (settings_part (bare settings)) }
 {
-    let answer = check_format(settings);
-    let Verdict::Accepted = answer else {
-        return answer;
-    };
+    check_format(settings)?;
     if bad_depths(settings) {
-        return Verdict::Depth;
+        return Err(Refusal::Depth);
     }
     if bad_ctb(settings) {
-        return Verdict::CtbSize;
+        return Err(Refusal::CtbSize);
     }
     if bad_offsets(settings) {
-        return Verdict::Offset;
+        return Err(Refusal::Offset);
     }
-    Verdict::Accepted
+    Ok(())
 }

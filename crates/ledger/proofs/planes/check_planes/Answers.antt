@@ -2,17 +2,16 @@
 -- and one that does not leaves it to the next, as Rattle finds.
 -- Assumes nothing.
 use Rattle.std.proofs.Common.{drop}
+use Rattle.std.proofs.lemmas.Result.{err_from_is_err_and}
 use Rattle.picture.specs.Causes.{planes_ledger}
-use Rattle.picture.specs.Given.{of_planes, planes_of}
-use Rattle.picture.specs.Picture.{Picture}
+use Rattle.picture.specs.Given.{of_planes}
+use Rattle.picture.specs.Lent.{planes_lent}
 use Rattle.ledger.specs.Parts.{format_part}
-use Rattle.ledger.proofs.Answers.{refused_by}
-use Rattle.ledger.proofs.Refusals.{refuses}
+use Rattle.ledger.proofs.Answers.{passed_on}
 use Rattle.ledger.proofs.planes.check_planes.Goals as goal
 
-pub returns-in_default : goal.returns-in_default
-returns-in_default c =
-    let a = c.args in
-    let picture : Picture = of_planes a.settings (planes_of a.y.now a.cb.now a.cr.now) in
-    refused_by (format_part picture) (drop 2 (planes_ledger picture)) c.check_format-answer.ensures
-    (refuses c.check_format-answer.result c.in_default.not-Accepted)
+pub returns-in_err-check_format : goal.returns-in_err-check_format
+returns-in_err-check_format c =
+    let p = of_planes c.args.settings (planes_lent c.args.planes.now) in
+    let given = err_from_is_err_and c.from_residual.result c.from_residual.ensures.1 in
+    passed_on (format_part p) (drop 2 (planes_ledger p)) c.check_format.ensures c.in_err-check_format.was given.1 given.2
