@@ -4,10 +4,10 @@ use mathlib.Core.Path.{◌≡◌, refl, sym, ap, ◌∙◌}
 use mathlib.Core.Bool.{true, false}
 use mathlib.Core.Logic.{◌⊎◌, inl, inr}
 use native.Mathlib.Omega.{arith}
-use borrow.Author.Count.{below_more}
 use borrow.Author.Tests.{lt-ltb, le-ltb, ltb-true}
 use lib.Dec.{ltb}
 use Rattle.std.specs.Prelude.{Option, Some, None}
+use Rattle.std.specs.Option.{MatchOption}
 use Rattle.std.proofs.lemmas.Option.{cond_some, none-some}
 use Rattle.ints.proofs.Laws.{either}
 use Rattle.picture.specs.Ledger.{Cause, and_then, first_place, place_of}
@@ -22,6 +22,11 @@ module _ (c : Cause) where
   pub place_none : Good c → None ≡ first_place c
   place_none good = rw (place_end c good, le-ltb c.count c.count (omega arith)) refl
 
+  -- it is the bad entry that only good ones precede
+  pub found_at : {i : ℕ} → i < c.count → ((k : ℕ) → k < i → c.bad k ≡ false) → c.bad i ≡ true
+      → Some i ≡ first_place c
+  found_at {i} h before b = place_some (sym (place_at c i h before b)) h
+
   -- and back: it is the place, of a bad entry, and where there is none all entries are good
   pub some_place : {n : ℕ} → first_place c ≡ Some n → (n ≡ place_of c) × (n < c.count)
   some_place {n} e =
@@ -35,24 +40,14 @@ module _ (c : Cause) where
       go (inl l) = absurd (none-some (place_of c) (sym e ∙ sym (place_some refl l)))
       go (inr l) = place_good c k (omega arith)
 
--- ---- a search among the entries
+-- ---- a search among the entries, as `find` tells it over the range of their numbers
 
-pub record Passed (c : Cause) (n : ℕ) : Type 0 where
-  pub most : n ≤ c.count
-  pub good : (k : ℕ) → k < n → c.bad k ≡ false
-
-module _ {c : Cause} where
-  pub none_yet : Passed c 0
-  none_yet = record { most = omega arith; good = λ k h. absurd (omega arith) }
-
-  pub one_more : {n : ℕ} → Passed c n → n < c.count → c.bad n ≡ false → Passed c (n + 1)
-  one_more {n} p h b = record { most = omega arith; good = below_more (λ (k : ℕ). c.bad k ≡ false) n p.good b }
-
-  pub found : {n : ℕ} → Passed c n → n < c.count → c.bad n ≡ true → Some n ≡ first_place c
-  found {n} p h b = place_some c (sym (place_at c n h p.good b)) h
-
-  pub ended : {n : ℕ} → Passed c n → c.count ≤ n → None ≡ first_place c
-  ended {n} p h = place_none c (λ k hk. p.good k (omega arith))
+pub found_first : (c : Cause) (r : Option ℕ)
+    → MatchOption r ((k : ℕ) → 0 ≤ k → k < c.count → c.bad k ≡ false)
+    (λ (i : ℕ). (0 ≤ i) × (i < c.count) × (c.bad i ≡ true) × ((k : ℕ) → 0 ≤ k → k < i → c.bad k ≡ false))
+    → r ≡ first_place c
+found_first c None h = place_none c (λ k hk. h k (omega arith) hk)
+found_first c (Some i) h = found_at c h.1 (λ k hk. h.3 k (omega arith) hk) h.2
 
 -- ---- the first place of two causes: in the first, or past all of it in the second
 

@@ -69,12 +69,5 @@ pub fn first_bad_cell(cells: &[u8], slices: &[u8], depth: u32) -> Option<usize>
 {
     let least = (64 - 6 * (depth - 8)) as u8;
     let count = slice_count(slices);
-    let mut n = 0;
-    while n < cells.len() / 8 {
-        if bad_cell_at(cells, n, least, count) {
-            return Some(n);
-        }
-        n += 1;
-    }
-    None
+    (0..cells.len() / 8).find(|n| bad_cell_at(cells, *n, least, count))
 }

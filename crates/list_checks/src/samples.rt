@@ -1,41 +1,20 @@
 // Cause 10 of the ledger: the original samples.
-ghost use Rattle.std.specs.Prelude.{ℕ, ◌+◌, ◌≤◌, ◌<◌, ◌≡◌, length, get_or};
+ghost use Rattle.std.specs.Int.Bits.{bit_or};
+ghost use Rattle.std.specs.Prelude.{◌≤◌, ◌≡◌, fold};
 ghost use Rattle.picture.specs.Causes.{cause10};
 ghost use Rattle.picture.specs.Given.{of_planes};
 ghost use Rattle.picture.specs.Ledger.{first_place};
 ghost use Rattle.picture.specs.Lent.{planes_lent};
-ghost use Rattle.list_checks.specs.Samples.{above, bits_of};
+ghost use Rattle.list_checks.specs.Samples.{above};
 
 use ints::largest_at;
 use picture::{Planes, Settings};
 
-// The bits of the 256 samples from `from` on.
-fn block_bits(plane: &[u16], from: usize) -> u16
-    requires { from + 256 ≤ length plane.now }
-    ensures { result ≡ bits_of plane.now from 256 }
+// The bits of a block of samples.
+fn block_bits(block: &[u16]) -> u16
+    ensures { result ≡ fold bit_or 0 block.now }
 {
-    let mut bits = 0;
-    let mut k = 0;
-    while k < 256 {
-        bits |= plane[from + k];
-        k += 1;
-    }
-    bits
-}
-
-// The same as first_bad_sample, where no sample before `from` is above the largest.
-fn first_bad_from(plane: &[u16], largest: u16, from: usize) -> Option<usize>
-    requires { (from ≤ length plane.now) × ((k : ℕ) → k < from → get_or plane.now k 0 ≤ largest) }
-    ensures { result ≡ first_place (above largest plane.now) }
-{
-    let mut k = from;
-    while k < plane.len() {
-        if largest < plane[k] {
-            return Some(k);
-        }
-        k += 1;
-    }
-    None
+    block.iter().fold(0, |bits, sample| bits | *sample)
 }
 
 // The first sample of a plane above the largest. Blocks of 256 samples are passed over by one test each: `largest` is
@@ -43,14 +22,17 @@ fn first_bad_from(plane: &[u16], largest: u16, from: usize) -> Option<usize>
 fn first_bad_sample(plane: &[u16], largest: u16) -> Option<usize>
     ensures { result ≡ first_place (above largest plane.now) }
 {
-    let mut from = 0;
-    while 256 <= plane.len() - from {
-        if largest < block_bits(plane, from) {
-            return first_bad_from(plane, largest, from);
+    let blocks = plane.len() / 256;
+    let passed = (0..blocks)
+        .find(|n| largest < block_bits(&plane[256 * *n..256 * *n + 256]))
+        .unwrap_or(blocks);
+    // A loop and not `find`, which takes a third longer on the samples that are left.
+    for k in 256 * passed..plane.len() {
+        if largest < plane[k] {
+            return Some(k);
         }
-        from += 256;
     }
-    first_bad_from(plane, largest, from)
+    None
 }
 
 // 10. The first original sample above its largest, counted through Y, Cb, Cr.

@@ -27,12 +27,5 @@ fn bad_slice_at(slices: &[u8], n: usize) -> bool
 pub fn first_bad_slice(slices: &[u8]) -> Option<usize>
     ensures { result ≡ first_place (cause7 slices.now) }
 {
-    let mut n = 0;
-    while n < slices.len() / 4 {
-        if bad_slice_at(slices, n) {
-            return Some(n);
-        }
-        n += 1;
-    }
-    None
+    (0..slices.len() / 4).find(|n| bad_slice_at(slices, *n))
 }

@@ -31,14 +31,7 @@ fn first_bad_start(starts: &[u16], size: u32, total: u32) -> Option<usize>
     ensures { result ≡ first_place (starts_cause starts.now size total) }
 {
     let ctbs = (total + size - 1) / size;
-    let mut k = 0;
-    while k < starts.len() {
-        if bad_start(starts, k, ctbs) {
-            return Some(k);
-        }
-        k += 1;
-    }
-    None
+    (0..starts.len()).find(|k| bad_start(starts, *k, ctbs))
 }
 
 // 8. The first tile start out of rule, rows numbered on after the columns.

@@ -1,21 +1,11 @@
--- `block_bits` meets its contract. The loop's invariant: `bits` are those of the samples passed.
+-- `block_bits` meets its contract: the bits are folded one by one.
 -- Assumes nothing.
-use mathlib.Core.Path.{◌≡◌, ap, ◌∙◌}
-use native.Mathlib.Omega.{arith}
-use Rattle.list_checks.specs.Samples.{bits_of}
-use Rattle.list_checks.proofs.Blocks.{no_bits, bits_more}
+use Rattle.std.proofs.Common.{bit_or, rules, tests}
+use Rattle.std.proofs.lemmas.Iterator.{YieldsList-from_slice}
+use Rattle.std.proofs.lemmas.Iterator.Consumers.{fold_from_yields_List}
 use Rattle.list_checks.proofs.samples.block_bits.Goals as goal
-
-pub loop-k-init : goal.loop-k-init
-loop-k-init c =
-    (omega arith, no_bits c.args.plane.now c.args.from)
-
-pub loop-k-preserved : goal.loop-k-preserved
-loop-k-preserved c =
-    let a = c.args in
-    (omega arith, rw c.loop-k.invariant.1 (bits_more a.plane.now a.from c.loop-k.k))
 
 pub returns : goal.returns
 returns c =
-    let all : c.loop-k.k ≡ 256 = omega arith in
-    c.loop-k.invariant.1 ∙ ap (bits_of c.args.plane.now c.args.from) all
+    fold_from_yields_List _ bit_or 0 c.fold.result c.fold.ensures.ran (YieldsList-from_slice c.args.block.now cc)
+    (λ a x b q k. search (rules, tests))

@@ -1,11 +1,8 @@
 -- `first_bad_sample` meets its contract. The loop's invariant: the samples passed are not above the largest.
 -- Assumes nothing.
-use Prim.Native.Nat.{ℕ, ◌-◌, ◌≤◌, ◌<◌}
-use lib.ListN.{length, get_or}
+use Rattle.std.proofs.Common.{ℕ, ◌<◌, ◌≡◌, false}
+use Rattle.list_checks.specs.Samples.{above}
 use Rattle.list_checks.proofs.samples.first_bad_sample.Given as goal
 
-abbrev pub invariant-loop-from : goal.invariant-loop-from
-invariant-loop-from l = (l.from ≤ length l.plane) × ((k : ℕ) → k < l.from → get_or l.plane k 0 ≤ l.largest)
-
-abbrev pub decreases-loop-from : goal.decreases-loop-from
-decreases-loop-from l = length l.plane - l.from
+abbrev pub invariant-loop-k : goal.invariant-loop-k
+invariant-loop-k l = (i : ℕ) → i < l.k → (above l.largest l.plane).bad i ≡ false

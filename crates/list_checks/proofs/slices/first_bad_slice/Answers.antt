@@ -1,22 +1,14 @@
--- `first_bad_slice` meets its contract. The loop's invariant: the records passed are good.
+-- `first_bad_slice` meets its contract: the first record that is bad by its tests is looked for.
 -- Assumes nothing.
-use mathlib.Core.Path.{sym, ◌∙◌}
-use native.Mathlib.Omega.{arith}
-use Rattle.list_checks.proofs.Places.{none_yet, one_more, found, ended}
+use Rattle.std.proofs.Common.{ℕ, ◌≡◌, true, false, rules, tests}
+use Rattle.std.proofs.lemmas.Iterator.{first_from_Range}
+use Rattle.picture.specs.Causes.{cause7}
+use Rattle.list_checks.proofs.Places.{found_first}
 use Rattle.list_checks.proofs.slices.first_bad_slice.Goals as goal
-
-pub loop-n-init : goal.loop-n-init
-loop-n-init c =
-    none_yet
-
-pub returns-then-bad_slice_at : goal.returns-then-bad_slice_at
-returns-then-bad_slice_at c =
-    found c.loop-n.invariant (omega arith) (sym c.bad_slice_at.ensures ∙ c.if-bad_slice_at.true)
-
-pub loop-n-preserved : goal.loop-n-preserved
-loop-n-preserved c =
-    one_more c.loop-n.invariant (omega arith) (sym c.bad_slice_at.ensures ∙ c.if-bad_slice_at.false)
 
 pub returns : goal.returns
 returns c =
-    ended c.loop-n.invariant (omega arith)
+    let bad = (cause7 c.args.slices.now).bad in
+    found_first (cause7 c.args.slices.now) c.find.result
+    (first_from_Range _ _ _ c.find.result (λ (n : ℕ). bad n ≡ true) (λ (n : ℕ). bad n ≡ false) c.find.ensures.ran
+    (λ x q k. search (rules, tests)) (λ x q k. search (rules, tests)))

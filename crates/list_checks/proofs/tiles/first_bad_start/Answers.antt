@@ -1,22 +1,15 @@
--- `first_bad_start` meets its contract. The loop's invariant: the starts passed are good.
+-- `first_bad_start` meets its contract: the first start that is bad by its tests is looked for.
 -- Assumes nothing.
-use mathlib.Core.Path.{sym, ◌∙◌}
-use native.Mathlib.Omega.{arith}
-use Rattle.list_checks.proofs.Places.{none_yet, one_more, found, ended}
+use Rattle.std.proofs.Common.{ℕ, ◌≡◌, true, false, rules, tests}
+use Rattle.std.proofs.lemmas.Iterator.{first_from_Range}
+use Rattle.picture.specs.Causes.{starts_cause}
+use Rattle.picture.specs.Ledger.{Cause}
+use Rattle.list_checks.proofs.Places.{found_first}
 use Rattle.list_checks.proofs.tiles.first_bad_start.Goals as goal
-
-pub loop-k-init : goal.loop-k-init
-loop-k-init c =
-    none_yet
-
-pub returns-then-bad_start : goal.returns-then-bad_start
-returns-then-bad_start c =
-    found c.loop-k.invariant (omega arith) (sym c.bad_start.ensures ∙ c.if-bad_start.true)
-
-pub loop-k-preserved : goal.loop-k-preserved
-loop-k-preserved c =
-    one_more c.loop-k.invariant (omega arith) (sym c.bad_start.ensures ∙ c.if-bad_start.false)
 
 pub returns : goal.returns
 returns c =
-    ended c.loop-k.invariant (omega arith)
+    let starts : Cause = starts_cause c.args.starts.now c.args.size c.args.total in
+    found_first starts c.find.result
+    (first_from_Range _ _ _ c.find.result (λ (k : ℕ). starts.bad k ≡ true) (λ (k : ℕ). starts.bad k ≡ false)
+    c.find.ensures.ran (λ x q k. search (rules, tests)) (λ x q k. search (rules, tests)))
