@@ -1,14 +1,15 @@
 -- What the records say of one segment, one cell and one band: the steps of the code, put together.
 use Prim.Native.Nat.{ℕ, ◌+◌, ◌-◌, ◌%◌, ◌≤◌, ◌<◌, min}
-use mathlib.Core.Path.{◌≡◌, refl, sym, ◌∙◌, ap}
+use mathlib.Core.Path.{◌≡◌, refl, ◌∙◌, ap}
 use mathlib.Core.Bool.{Bool, true, false, cond, not, ◌&&◌, ◌||◌}
 use mathlib.Core.List.{List}
-use borrow.Author.Tests.{le-leb, lt-leb, eq-eqb, ne_eqb}
+use borrow.Author.Tests.{le-leb, lt-leb}
 use lib.Dec.{eqb}
 use lib.IntN.{ℤ, pos}
+use Rattle.std.specs.Prelude.{Some, None}
+use Rattle.std.specs.Bool.{then_some}
 use Rattle.ints.specs.Int.{◌⊖◌}
 use Rattle.ints.specs.Sample.{largest_at}
-use Rattle.filter.specs.declared.SliceGate.TheVariants.{Closed, Open}
 use Rattle.filter.specs.Answer.{slice_gate}
 use Rattle.filter.specs.Bands.{horizontal_band_end}
 use Rattle.filter.specs.Kernel.{luma, chroma}
@@ -38,30 +39,16 @@ band_far total h r e inside high is = simp (lt-leb _ _ inside, lt-leb _ _ high) 
 
 -- ---- the gate of the slices, by Q's slice s
 
-module _ (slices : List ℕ) (p q : Cell) (s : Slice) (is : s ≡ slice_at slices q.slice) where
-  gate_is : cond ((s.across || eqb p.slice q.slice) && not s.disabled) (Open s) Closed ≡ slice_gate slices p q
-  unfolding slice_gate slices_open
-  gate_is = ap (λ (t : Slice). cond (slices_open p q t) (Open t) Closed) is
-
-  pub gate_disabled : s.disabled ≡ true → Closed ≡ slice_gate slices p q
-  gate_disabled d = sym (closed (s.across || eqb p.slice q.slice) s.disabled d) ∙ gate_is
-    where
-      closed : (t d : Bool) → d ≡ true → cond (t && not d) (Open s) Closed ≡ Closed
-      closed true d e = rw e
-      closed false d e = refl
-
-  pub gate_across : s.disabled ≡ false → s.across ≡ true → Open s ≡ slice_gate slices p q
-  gate_across d a = simp (d, a) at gate_is
-
-  pub gate_one : s.disabled ≡ false → p.slice ≡ q.slice → Open s ≡ slice_gate slices p q
-  gate_one d e = sym (opened s.across (eqb p.slice q.slice) s.disabled (eq-eqb _ _ e) d) ∙ gate_is
-    where
-      opened : (a t d : Bool) → t ≡ true → d ≡ false → cond ((a || t) && not d) (Open s) Closed ≡ Open s
-      opened true t d e f = rw f
-      opened false t d e f = rw (e, f)
-
-  pub gate_apart : s.across ≡ false → (p.slice ≡ q.slice → ⊥) → Closed ≡ slice_gate slices p q
-  gate_apart a n = simp (a, ne_eqb _ _ n) at gate_is
+pub gate_is : (slices : List ℕ) (p q : Cell) (s : Slice) → s ≡ slice_at slices q.slice
+    → then_some ((s.across || eqb p.slice q.slice) && not s.disabled) s ≡ slice_gate slices p q
+unfolding slice_gate slices_open
+gate_is slices p q s is =
+    given ((s.across || eqb p.slice q.slice) && not s.disabled) s
+    ∙ ap (λ (t : Slice). cond (slices_open p q t) (Some t) None) is
+  where
+    given : (b : Bool) (t : Slice) → then_some b t ≡ cond b (Some t) None
+    given true t = refl
+    given false t = refl
 
 -- ---- thresholds, by the average QP
 

@@ -1,22 +1,19 @@
--- The enum and the structs of the code: what each says in the definition's terms.
-use Rattle.std.specs.Prelude.{ℕ, ◌+◌, ◌≤◌, ◌≡◌, cond, List}
-use Rattle.ints.specs.Int.{◌⊖◌}
+-- What the code answers, in the definition's terms.
+use Rattle.std.specs.Prelude.{ℕ, ◌+◌, ◌≤◌, ◌≡◌, cond, List, Option, Some, None}
 use Rattle.ints.specs.Sample.{largest_at}
 use Rattle.filter.specs.declared.ChromaFilter.{ChromaFilter}
 use Rattle.filter.specs.declared.Component.{Component}
 use Rattle.filter.specs.declared.LumaFilter.{LumaFilter}
-use Rattle.filter.specs.declared.SliceGate.{SliceGate}
-use Rattle.filter.specs.declared.SliceGate.TheVariants.{Closed, Open}
 use Rattle.filter.specs.Kernel.{Filter, luma, chroma}
 use Rattle.filter.specs.Segment.{slices_open}
 use Rattle.picture.specs.declared.Cell.{Cell}
 use Rattle.picture.specs.declared.Slice.{Slice}
 use Rattle.picture.specs.Slice.{slice_at}
 
--- open with Q's slice record, where the slices of P and Q let the segment be filtered
-unfoldable pub slice_gate : List ℕ → Cell → Cell → SliceGate
+-- Q's slice record, where the slices of P and Q let the segment be filtered
+unfoldable pub slice_gate : List ℕ → Cell → Cell → Option Slice
 slice_gate slices p q =
-    cond (slices_open p q (slice_at slices q.slice)) (Open (slice_at slices q.slice)) Closed
+    cond (slices_open p q (slice_at slices q.slice)) (Some (slice_at slices q.slice)) None
 
 -- the filter of an open luma segment, and of an open chroma one
 abbrev pub luma_of : LumaFilter → Filter

@@ -4,25 +4,17 @@ ghost use Rattle.filter.specs.Answer.{slice_gate};
 ghost use Rattle.picture.specs.Cell.{suppressed};
 ghost use Rattle.picture.specs.Slice.{slice_count};
 
-use crate::SliceGate;
-use picture::{Cell, slice_at};
+use picture::{Cell, Slice, slice_at};
 
-// Q's slice decides: it must not be disabled, and must filter across unless P lies in it too.
-pub fn slice_gate(slices: &[u8], p: Cell, q: Cell) -> SliceGate
+// Q's slice, whose offsets a segment is filtered by, where the slices let it be filtered: Q's must not be disabled, and
+// must filter across unless P lies in it too.
+pub fn slice_gate(slices: &[u8], p: Cell, q: Cell) -> Option<Slice>
     requires { q.slice < slice_count slices.now }
     ensures { result ≡ slice_gate slices.now p q }
 {
     let s = slice_at(slices, q.slice as usize);
-    if s.disabled {
-        return SliceGate::Closed;
-    }
-    if s.across {
-        return SliceGate::Open(s);
-    }
-    if p.slice == q.slice {
-        return SliceGate::Open(s);
-    }
-    SliceGate::Closed
+    let open = (s.across | (p.slice == q.slice)) & !s.disabled;
+    open.then_some(s)
 }
 
 // sample_suppressed of the Rust, and palette cells, which it has not: a lossless cell, a PCM one with the switch on or

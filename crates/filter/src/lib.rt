@@ -9,7 +9,6 @@ mod parameters;
 pub use bands::{ctb_band_end, horiz_band_end};
 pub use gate::{is_suppressed, slice_gate};
 pub use parameters::{chroma_filter, luma_filter};
-use picture::Slice;
 
 // What is to be known of the component that is filtered. `offset` is the Cb or Cr offset plus 12, which luma does not
 // read; `largest` is the largest sample of the depth.
@@ -20,13 +19,6 @@ pub struct Component {
     pub depth: u32,
     pub offset: u8,
     pub largest: u16,
-}
-
-// Whether the slices of P and Q let a segment be filtered; if so, with Q's slice, whose offsets it is filtered by.
-#[derive(Clone, Copy)]
-pub enum SliceGate {
-    Closed,
-    Open(Slice),
 }
 
 // How an open luma segment is filtered: its scaled thresholds and the largest sample.
