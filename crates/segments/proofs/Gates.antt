@@ -5,31 +5,45 @@ use mathlib.Core.Bool.{Bool, true, false, cond, not, ◌&&◌}
 use mathlib.Core.List.{List}
 use mathlib.Core.Option.{none, some}
 use native.Mathlib.Omega.{arith}
-use borrow.Author.Tests.{lt-ltb, le-ltb, le-leb, lt-leb, not-true, not-false}
-use lib.Dec.{leb}
+use borrow.Author.Tests.{le-leb, lt-leb, not-true, not-false}
+use lib.Dec.{leb, ltb}
+use Rattle.std.specs.Prelude.{Some, None}
+use Rattle.std.specs.Bool.{then_some}
 use Rattle.ints.specs.Int.{◌⊖◌}
 use Rattle.filter.specs.declared.ChromaFilter.{ChromaFilter}
 use Rattle.filter.specs.declared.Component.{Component}
 use Rattle.filter.specs.declared.LumaFilter.{LumaFilter}
-use Rattle.filter.specs.declared.SliceGate.TheVariants.{Closed, Open}
 use Rattle.filter.specs.Answer.{SegmentInRange, Sound, chroma_of, luma_of, slice_gate}
-use Rattle.filter.specs.Kernel.{Filter, luma, chroma, tc_of}
+use Rattle.filter.specs.Kernel.{luma, chroma}
 use Rattle.filter.specs.Segment.{slices_open, luma_filter, chroma_filter}
 use Rattle.picture.specs.declared.Cell.{Cell}
 use Rattle.picture.specs.declared.Slice.{Slice}
 use Rattle.picture.specs.Slice.{slice_at}
 use Rattle.segments.specs.declared.Sides.{Sides}
-use Rattle.segments.specs.Between.{filter_for, least_for, positive, between_for}
+use Rattle.segments.specs.declared.SegmentFilter.TheVariants as Answer
+use Rattle.segments.specs.Between.{filter_for, least_for, positive, between_for, option_of}
 
 -- ---- the filter
 
-pub positive_none : (f : Filter) → tc_of f ≡ 0 → none ≡ positive f
+-- the answer's test is the definition's
+pub luma_positive : (largest β tc : ℕ)
+    → option_of largest (then_some (ltb 0 tc) (Answer.Luma β tc)) ≡ positive (luma β tc largest)
 unfolding positive
-positive_none f e = simp (le-ltb 0 (tc_of f) (omega arith))
+luma_positive largest β tc = go (ltb 0 tc)
+  where
+    go : (t : Bool)
+        → option_of largest (then_some t (Answer.Luma β tc)) ≡ cond t (some (luma β tc largest)) none
+    go true = refl
+    go false = refl
 
-pub positive_some : (f : Filter) → (tc_of f ≡ 0 → ⊥) → some f ≡ positive f
+pub chroma_positive : (largest tc : ℕ)
+    → option_of largest (then_some (ltb 0 tc) (Answer.Chroma tc)) ≡ positive (chroma tc largest)
 unfolding positive
-positive_some f n = simp (lt-ltb 0 (tc_of f) (omega (arith, n)))
+chroma_positive largest tc = go (ltb 0 tc)
+  where
+    go : (t : Bool) → option_of largest (then_some t (Answer.Chroma tc)) ≡ cond t (some (chroma tc largest)) none
+    go true = refl
+    go false = refl
 
 module _ (k : Component) (p q : Cell) (s : Slice) (bS : ℕ) where
   either_for : (t : Bool) → k.luma ≡ t
@@ -71,12 +85,12 @@ least_some k = go k.luma
     go true = omega arith
     go false = omega arith
 
-told : (S s : Slice) (t : Bool) → cond t (Open S) Closed ≡ Open s → (t ≡ true) × (S ≡ s)
+told : (S s : Slice) (t : Bool) → cond t (Some S) None ≡ Some s → (t ≡ true) × (S ≡ s)
 told S s true e = (refl, cc)
 told S s false e = absurd (let z : ◌≡◌ {A = ℕ} 0 1 = cc in omega arith)
 
 -- the slice of an open gate is Q's, so what is in range by that one is so by this
-pub open_in_range : (slices : List ℕ) (p q : Cell) (bS : ℕ) (s : Slice) → slice_gate slices p q ≡ Open s
+pub open_in_range : (slices : List ℕ) (p q : Cell) (bS : ℕ) (s : Slice) → slice_gate slices p q ≡ Some s
     → SegmentInRange p q (slice_at slices q.slice) bS → SegmentInRange p q s bS
 unfolding slice_gate
 open_in_range slices p q bS s e h =
@@ -103,16 +117,16 @@ module _ (k : Component) (slices : List ℕ) (v : Sides) (bS : ℕ) where
     closed_tile n = by_tests true false (slices_open v.p v.q S) (le-leb _ _ strong) (not-true v.same n) refl
 
     module _ (one : not v.same ≡ false) where
-      shut : (t : Bool) → cond t (Open S) Closed ≡ Closed → t ≡ false
+      shut : (t : Bool) → cond t (Some S) None ≡ None → t ≡ false
       shut true e = absurd (let z : ◌≡◌ {A = ℕ} 0 1 = cc in omega arith)
       shut false e = refl
 
-      pub closed_slices : slice_gate slices v.p v.q ≡ Closed → none ≡ between_for k slices v bS
+      pub closed_slices : slice_gate slices v.p v.q ≡ None → none ≡ between_for k slices v bS
       unfolding slice_gate
       closed_slices e =
           by_tests true true false (le-leb _ _ strong) (not-false v.same one) (shut (slices_open v.p v.q S) e)
 
-      pub opened : (s : Slice) → slice_gate slices v.p v.q ≡ Open s
+      pub opened : (s : Slice) → slice_gate slices v.p v.q ≡ Some s
           → positive (filter_for k v.p v.q s bS) ≡ between_for k slices v bS
       unfolding slice_gate
       opened s e =

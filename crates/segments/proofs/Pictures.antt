@@ -4,11 +4,11 @@ use Prim.Native.Nat.{ℕ, ◌-◌}
 use mathlib.Core.Path.{◌≡◌, refl, sym, ◌∙◌, ap, ap₂}
 use mathlib.Core.Bool.{Bool, true, false, cond, ◌&&◌}
 use mathlib.Core.List.{List}
-use mathlib.Core.Option.{Option, none, some}
+use mathlib.Core.Option.{Option, none}
 use borrow.Author.Tests.{eq-eqb}
-use lib.Dec.{ltb, eqb, leb}
+use lib.Dec.{eqb, leb}
 use lib.IntN.{ℤ}
-use Rattle.filter.specs.Kernel.{Filter, tc_of}
+use Rattle.filter.specs.Kernel.{Filter}
 use Rattle.filter.specs.Segment.{
   Direction,
   vertical,

@@ -1,6 +1,7 @@
 -- The definition's `between` by what the code is given: a component as a struct, and the cells of a segment with
--- whether they lie in one tile. And the enum Segment: what each case says.
-use Rattle.std.specs.Prelude.{ℕ, Bool, cond, ◌&&◌, List, leb, ltb}
+-- whether they lie in one tile. And what each answer of the code says.
+use Rattle.std.specs.Prelude as Code
+use Rattle.std.specs.Prelude.{ℕ, Bool, cond, ◌&&◌, List, leb, ltb, Some, None}
 use Rattle.std.proofs.Math.Option.{Option, none, some}
 use Rattle.ints.specs.Int.{◌⊖◌}
 use Rattle.filter.specs.declared.Component.{Component}
@@ -9,8 +10,8 @@ use Rattle.filter.specs.Segment.{slices_open, luma_filter, chroma_filter}
 use Rattle.picture.specs.declared.Cell.{Cell}
 use Rattle.picture.specs.declared.Slice.{Slice}
 use Rattle.picture.specs.Slice.{slice_at}
-use Rattle.segments.specs.declared.Segment.{Segment}
-use Rattle.segments.specs.declared.Segment.TheVariants.{Closed, Luma, Chroma}
+use Rattle.segments.specs.declared.SegmentFilter.{SegmentFilter}
+use Rattle.segments.specs.declared.SegmentFilter.TheVariants.{Luma, Chroma}
 use Rattle.segments.specs.declared.Sides.{Sides}
 
 abbrev pub filter_for : Component → Cell → Cell → Slice → ℕ → Filter
@@ -32,8 +33,8 @@ between_for k slices s bS =
     cond (leb (least_for k) bS && (s.same && slices_open s.p s.q slice_q))
     (positive (filter_for k s.p s.q slice_q bS)) none
 
--- what a Segment says of a component with this largest sample
-abbrev pub option_of : ℕ → Segment → Option Filter
-option_of largest Closed = none
-option_of largest (Luma β tc) = some (luma β tc largest)
-option_of largest (Chroma tc) = some (chroma tc largest)
+-- what is answered of a segment of a component with this largest sample
+abbrev pub option_of : ℕ → Code.Option SegmentFilter → Option Filter
+option_of largest None = none
+option_of largest (Some (Luma β tc)) = some (luma β tc largest)
+option_of largest (Some (Chroma tc)) = some (chroma tc largest)

@@ -3,3 +3,4 @@ pub mod Between
 pub mod Sides
 pub mod Pictures
 pub mod Ready
+pub mod Input

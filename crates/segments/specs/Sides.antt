@@ -10,6 +10,7 @@ use Rattle.picture.specs.Cell.{cell_at, cell_number}
 use Rattle.picture.specs.Scale.{Sampling, whole, chroma_across, chroma_down, to_luma, cell_of, ctb_of}
 use Rattle.picture.specs.Tile.{tile_of}
 use Rattle.segments.specs.declared.Frame.{Frame}
+use Rattle.segments.specs.declared.LumaPosition.{LumaPosition}
 use Rattle.segments.specs.declared.Sides.{Sides}
 use Rattle.segments.specs.Between.{between_for}
 
@@ -24,6 +25,19 @@ crossing horizontal a = a.y
 
 abbrev pub position_of : ℕ → ℕ → Position
 position_of x y = record { x = x; y = y }
+
+-- the code's struct as a position
+abbrev pub place_of : LumaPosition → Position
+place_of a = position_of a.x.0 a.y
+
+-- how far a plane reaches across the edges of a direction, and along them
+abbrev pub breadth : Direction → Frame → ℕ
+breadth vertical f = f.columns
+breadth horizontal f = f.rows
+
+abbrev pub length_of : Direction → Frame → ℕ
+length_of vertical f = f.rows
+length_of horizontal f = f.columns
 
 -- `starts` are the tile starts of the direction: columns for vertical edges, rows for horizontal ones
 unfoldable pub sides_at : Direction → List ℕ → List ℕ → ℕ → ℕ → Position → Sides

@@ -1,68 +1,30 @@
 // The two sides of a segment, by the luma position of its Q sample.
-ghost use Rattle.std.specs.Prelude.{◌≡◌, ◌≤◌, ◌<◌};
-ghost use Rattle.filter.specs.Segment.{horizontal, vertical};
+ghost use Rattle.std.specs.Prelude.{◌≡◌, ◌≤◌};
+ghost use Rattle.segments.specs.Input.{sides_in};
 ghost use Rattle.segments.specs.Listed.{Listed};
-ghost use Rattle.segments.specs.Sides.{cell_in, position_of, sides_at};
+ghost use Rattle.segments.specs.Sides.{cell_in, crossing, place_of};
 
-use crate::Sides;
-use picture::{
-    Cell, CellColumn, LumaColumn, cell_at, cell_number, row_of_cells, row_of_ctbs,
-    same_tile_column, same_tile_row,
-};
+use crate::{EdgeDirection, LumaPosition, PassInput, Sides};
+use picture::{Cell, CellColumn, cell_at, cell_number, row_of_cells};
 
 // The cell of a luma sample.
-fn cell_of(cells: &[u8], width: CellColumn, x: LumaColumn, y: usize) -> Cell
-    requires { Listed cells.now width.0 x.0 y }
-    ensures { result ≡ cell_in cells.now width.0 (position_of x.0 y) }
+pub(crate) fn cell_of(cells: &[u8], width: CellColumn, at: LumaPosition) -> Cell
+    requires { Listed cells.now width.0 at.x.0 at.y }
+    ensures { result ≡ cell_in cells.now width.0 (place_of at) }
 {
-    cell_at(cells, cell_number(width, x.cell(), row_of_cells(y)))
+    cell_at(cells, cell_number(width, at.x.cell(), row_of_cells(at.y)))
 }
 
-// The flags of Q alone: most segments have no edge, and then nothing else of them is read.
-pub(crate) fn flags_at(cells: &[u8], width: CellColumn, x: LumaColumn, y: usize) -> u8
-    requires { Listed cells.now width.0 x.0 y }
-    ensures { result ≡ (cell_in cells.now width.0 (position_of x.0 y)).flags }
+pub(crate) fn sides_of<D: EdgeDirection>(input: &PassInput<'_>, q: LumaPosition) -> Sides
+    requires apart { 1 ≤ crossing D.direction (place_of q) }
+    requires listed { Listed input.now.cells.now input.now.frame.cell_columns.0 q.x.0 q.y }
+    ensures { result ≡ sides_in D.direction input.now (place_of q) }
 {
-    let q = cell_of(cells, width, x, y);
-    q.flags
-}
-
-// P is left of Q.
-pub(crate) fn vertical_sides(
-    cells: &[u8],
-    starts: &[u16],
-    log2: u32,
-    width: CellColumn,
-    x: LumaColumn,
-    y: usize,
-) -> Sides
-    requires x_bound { (1 ≤ x.0) × (log2 < 64) }
-    requires listed { Listed cells.now width.0 x.0 y }
-    ensures { result ≡ sides_at vertical cells.now starts.now log2 width.0 (position_of x.0 y) }
-{
-    let left = LumaColumn(x.0 - 1);
-    let p = cell_of(cells, width, left, y);
-    let q = cell_of(cells, width, x, y);
-    let same = same_tile_column(starts, left.ctb(log2), x.ctb(log2));
-    Sides { p, q, same }
-}
-
-// P is above Q.
-pub(crate) fn horizontal_sides(
-    cells: &[u8],
-    starts: &[u16],
-    log2: u32,
-    width: CellColumn,
-    x: LumaColumn,
-    y: usize,
-) -> Sides
-    requires y_bound { (1 ≤ y) × (log2 < 64) }
-    requires listed { Listed cells.now width.0 x.0 y }
-    ensures { result ≡ sides_at horizontal cells.now starts.now log2 width.0 (position_of x.0 y) }
-{
-    let above = y - 1;
-    let p = cell_of(cells, width, x, above);
-    let q = cell_of(cells, width, x, y);
-    let same = same_tile_row(starts, row_of_ctbs(above, log2), row_of_ctbs(y, log2));
-    Sides { p, q, same }
+    let width = input.frame.cell_columns;
+    let p = D::position_p(q);
+    Sides {
+        p: cell_of(input.cells, width, p),
+        q: cell_of(input.cells, width, q),
+        same: D::in_one_tile(input, p, q),
+    }
 }

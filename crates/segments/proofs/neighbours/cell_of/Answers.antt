@@ -2,7 +2,7 @@
 -- Assumes nothing.
 use mathlib.Core.Path.{◌∙◌, ap}
 use native.Mathlib.Omega.{arith}
-use Rattle.picture.specs.Cell.{cell_at, cell_number}
+use Rattle.picture.specs.Cell.{cell_at}
 use Rattle.segments.proofs.Positions.{number_is}
 use Rattle.segments.proofs.neighbours.cell_of.Goals as goal
 
