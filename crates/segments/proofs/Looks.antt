@@ -1,22 +1,19 @@
 -- The sides of a segment put together from their lookups, and the segment from its sides, in either direction.
-use Prim.Native.Nat.{ℕ, ◌-◌, ◌*◌, ◌/◌, ◌≤◌}
-use mathlib.Core.Path.{◌≡◌, sym, ap, ◌∙◌, subst}
+use Prim.Native.Nat.{ℕ}
+use mathlib.Core.Path.{◌≡◌, sym, ap, ◌∙◌}
 use mathlib.Core.Bool.{Bool, true, false, cond}
 use mathlib.Core.List.{List}
 use mathlib.Core.Option.{Option, none}
-use native.Mathlib.Nat.{mul-le-mul_right}
-use native.Mathlib.Omega.{arith}
 use lib.Dec.{eqb}
 use Rattle.filter.specs.declared.Component.{Component}
 use Rattle.filter.specs.Kernel.{Filter}
-use Rattle.filter.specs.Segment.{Direction, vertical, horizontal, edge_flag, bs_of, Position, position_p}
+use Rattle.filter.specs.Segment.{Direction, edge_flag, bs_of, Position, position_p}
 use Rattle.picture.specs.declared.Cell.{Cell}
 use Rattle.picture.specs.Scale.{ctb_of}
 use Rattle.picture.specs.Tile.{tile_of}
 use Rattle.segments.specs.declared.Frame.{Frame}
 use Rattle.segments.specs.declared.Sides.{Sides}
 use Rattle.segments.specs.Between.{between_for}
-use Rattle.segments.specs.Listed.{Listed}
 use Rattle.segments.specs.Sides.{cell_in, cell_for, crossing, sides_at, position_for, segment_for}
 
 -- ---- the sides
@@ -34,18 +31,6 @@ sides_made d cells starts log2 w p q e ep eq et =
     (λ (a : Position). eqb (tile_of starts (ctb_of log2 (crossing d a))) (tile_of starts (ctb_of log2 (crossing d q))))
     e in
     λ i. record { p = before i; q = eq i; same = tiles i }
-
--- the cell of P is listed too
-pub listed_before : (d : Direction) {cells : List ℕ} (w : ℕ) (p q : Position) → p ≡ position_p d q
-    → 1 ≤ crossing d q → Listed cells w q.x q.y → Listed cells w p.x p.y
-listed_before d {cells} w p q e some l =
-    subst (λ (a : Position). Listed cells w a.x a.y) (sym e) (go d some)
-  where
-    go : (d : Direction) → 1 ≤ crossing d q → Listed cells w (position_p d q).x (position_p d q).y
-    go vertical some = record { small = omega (arith, l.small); there = omega (arith, l.there) }
-    go horizontal some =
-        let m : (q.y - 1) / 4 * w ≤ q.y / 4 * w = mul-le-mul_right w (omega arith) in
-        record { small = omega (arith, l.small); there = omega (arith, l.there) }
 
 -- ---- the segment, by the flags of its Q cell and by its sides
 

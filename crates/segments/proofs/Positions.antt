@@ -1,5 +1,5 @@
 -- Luma positions of a component's samples, and their cells in the lists of an accepted picture.
-use Prim.Native.Nat.{ℕ, ◌+◌, ◌-◌, ◌*◌, ◌/◌, ◌^◌, ◌≤◌, ◌<◌}
+use Prim.Native.Nat.{ℕ, ◌+◌, ◌-◌, ◌*◌, ◌/◌, ◌≤◌, ◌<◌}
 use mathlib.Core.Path.{◌≡◌, sym, ap, ap₂, ◌∙◌, subst}
 use mathlib.Core.Bool.{Bool, false, cond}
 use mathlib.Core.List.{List}
@@ -16,16 +16,7 @@ use Rattle.segments.specs.declared.Frame.{Frame}
 use Rattle.segments.specs.declared.Sides.{Sides}
 use Rattle.segments.specs.Listed.{Listed}
 use Rattle.segments.specs.Ready.{Ready}
-use Rattle.segments.specs.Sides.{
-  across_for,
-  down_for,
-  breadth,
-  length_of,
-  cell_in,
-  crossing,
-  position_for,
-  sides_at,
-}
+use Rattle.segments.specs.Sides.{across_for, down_for, breadth, length_of, cell_in, position_for, sides_at}
 
 -- ---- scales
 
@@ -58,14 +49,6 @@ module _ (d : Direction) (k : Component) (f : Frame) {cells slices tcs : List �
   abbrev q : Position
   q = position_for k d e l
 
-  -- both are small
-  pub few : (e < 2 ^ 32) × (l + 1 < 2 ^ 32)
-  few = go d he hl
-    where
-      go : (d : Direction) → e < breadth d f → l + 1 < length_of d f → (e < 2 ^ 32) × (l + 1 < 2 ^ 32)
-      go vertical he hl = (omega (arith, ready.columns_most), omega (arith, ready.rows_most))
-      go horizontal he hl = (omega (arith, ready.rows_most), omega (arith, ready.columns_most))
-
   in_picture : (q.x < 4 * w) × (q.y < 4 * f.cell_rows)
   in_picture = go d he hl
     where
@@ -86,14 +69,6 @@ module _ (d : Direction) (k : Component) (f : Frame) {cells slices tcs : List �
   listed =
       let most : f.cell_rows * w ≤ 2048 * 2048 = mul-le-mul ready.high ready.wide in
       record { small = omega (arith, inside); there = omega (arith, inside, ready.cells_long) }
-
-  -- it is at or past the plane's own position
-  pub past : e ≤ crossing d q
-  past = go d
-    where
-      go : (d : Direction) → e ≤ crossing d (position_for k d e l)
-      go vertical = no_less (across_for k) e
-      go horizontal = no_less (down_for k) e
 
   -- the slice of Q is listed
   known : (cell_in cells w q).slice < slice_count slices

@@ -13,7 +13,7 @@ use crate::{EdgeDirection, Frame, PassInput, SegmentFilter};
 use filter::Component;
 
 // Whether there is an edge at column or row e, of the segment whose first row or column is l: the flag of its Q cell,
-// which is that of its second sample.
+// which is that of its second sample. It needs less than a pass has ready, and so takes less.
 pub fn edge_at<D: EdgeDirection>(cells: &[u8], k: Component, f: Frame, e: usize, l: usize) -> bool
     requires e_bound { (e < 2 ^ 32) × (l + 1 < 2 ^ 32) }
     requires listed { Listed cells.now f.cell_columns.0 (position_for k D.direction e l).x

@@ -1,10 +1,8 @@
 // What vertical and horizontal edges differ in: where P and Q of a segment are, which of a cell's flags and strengths
 // are the edge's, and which tile starts part its sides.
-ghost use Rattle.std.specs.Prelude.{◌≡◌, ◌+◌, ◌^◌, ◌≤◌, ◌<◌, eqb};
+ghost use Rattle.std.specs.Prelude.{◌≡◌, ◌+◌, ◌^◌, ◌≤◌, ◌<◌};
 ghost use Rattle.filter.specs.Segment.{Direction, bs_of, edge_flag, horizontal, position_p, vertical};
-ghost use Rattle.picture.specs.Scale.{ctb_of};
-ghost use Rattle.picture.specs.Tile.{tile_of};
-ghost use Rattle.segments.specs.Input.{starts_in};
+ghost use Rattle.segments.specs.Input.{one_tile_in};
 ghost use Rattle.segments.specs.Sides.{crossing, place_of, position_for};
 
 use crate::scales::{luma_column_at, luma_row_at};
@@ -35,11 +33,7 @@ pub trait EdgeDirection {
 
     // Whether P and Q lie in one tile, as far as the edge can part them.
     fn in_one_tile(input: &PassInput<'_>, p: LumaPosition, q: LumaPosition) -> bool
-        ensures { result
-            ≡ eqb (tile_of (starts_in direction input.now)
-            (ctb_of input.now.frame.log2_ctb (crossing direction (place_of p))))
-            (tile_of (starts_in direction input.now)
-            (ctb_of input.now.frame.log2_ctb (crossing direction (place_of q)))) };
+        ensures { result ≡ one_tile_in direction input.now (place_of p) (place_of q) };
 }
 
 // P is left of Q.
