@@ -11,7 +11,8 @@ pub use gate::{is_suppressed, slice_gate};
 pub use parameters::{chroma_filter, luma_filter};
 
 // What is to be known of the component that is filtered. `offset` is the Cb or Cr offset plus 12, which luma does not
-// read; `largest` is the largest sample of the depth.
+// read; `largest` is the largest sample of the depth. An enum of luma and chroma would be no plainer: both have a depth
+// and a largest sample, and `Sound`, `segment_for` and `Ready` speak of the fields. `format` is the picture's number.
 #[derive(Clone, Copy)]
 pub struct Component {
     pub luma: bool,

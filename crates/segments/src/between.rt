@@ -15,7 +15,8 @@ fn least_bs(luma: bool) -> u8
     if luma { 1 } else { 2 }
 }
 
-// The filter of a segment whose gate is open. tc 0 leaves it alone.
+// The filter of a segment whose gate is open. tc 0 leaves it alone. That P, Q and the slice are in range is asked here
+// and below: no struct holds the three, since the slice is looked up once the gate has let the segment by.
 fn open_filter(input: &PassInput<'_>, v: Sides, s: Slice, bs: u8) -> Option<SegmentFilter>
     requires in_range { (1 ≤ bs) × SegmentInRange v.p v.q s bs }
     ensures { option_of input.now.component.largest result

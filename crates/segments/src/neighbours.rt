@@ -7,7 +7,7 @@ ghost use Rattle.segments.specs.Sides.{cell_in, crossing, place_of};
 use crate::{EdgeDirection, LumaPosition, PassInput, Sides};
 use picture::{Cell, CellColumn, cell_at, cell_number, row_of_cells};
 
-// The cell of a luma sample.
+// The cell of a luma sample. Its position holds no fact on it being listed: that hangs on the list and its width too.
 pub(crate) fn cell_of(cells: &[u8], width: CellColumn, at: LumaPosition) -> Cell
     requires { Listed cells.now width.0 at.x.0 at.y }
     ensures { result ≡ cell_in cells.now width.0 (place_of at) }

@@ -17,7 +17,7 @@ pub(crate) fn luma_column_at(k: Component, x: usize) -> LumaColumn
     ChromaColumn(x).luma(k.format)
 }
 
-// The luma row of a component's row.
+// The luma row of a component's row. Rows are plain numbers, and go by a sampling of their own.
 pub fn luma_row_at(k: Component, y: usize) -> usize
     requires { y < 2 ^ 32 }
     ensures { result ≡ to_luma (down_for k) y }

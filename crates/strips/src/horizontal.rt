@@ -1,34 +1,20 @@
 // A strip: the segments of one horizontal edge.
-ghost use Rattle.std.specs.Prelude.{◌≡◌, ◌+◌, ◌-◌, ◌*◌, ◌%◌, ◌≤◌, ◌<◌, length};
+ghost use Rattle.std.specs.Prelude.{◌≡◌, ◌-◌, ◌+◌, ◌*◌, ◌%◌, ◌≤◌, ◌<◌, length};
 ghost use Rattle.filter.specs.Segment.{horizontal};
-ghost use Rattle.strips.specs.Passed.{pass_for};
 ghost use Rattle.planes.specs.Rows.{Rows, seen};
-ghost use Rattle.segments.specs.Ready.{Ready};
+ghost use Rattle.strips.specs.Passed.{pass_in};
 
-use crate::segment::horizontal_segment;
-use filter::Component;
-use segments::Frame;
+use crate::segment::filter_segment;
+use segments::{Horizontal, PassInput};
 
 // The horizontal edge above row `edge`: `s` holds the four rows above it and the four from it on.
-pub fn horizontal_strip(
-    s: &mut [u16],
-    cells: &[u8],
-    slices: &[u8],
-    starts: &[u16],
-    tcs: &[u8; 1352],
-    k: Component,
-    f: Frame,
-    edge: usize,
-)
-    requires ready { Ready k f cells.now slices.now tcs.now }
-    requires s_len { (length s.old ≡ 8 * f.columns) × (edge % 8 ≡ 0) × (8 ≤ edge) × (edge < f.rows) }
-    ensures { Rows f.columns (edge - 4) (edge + 4) s.new
-        (pass_for horizontal k f cells.now slices.now starts.now
-        (seen f.columns (edge - 4) s.old)) }
+pub fn horizontal_strip(s: &mut [u16], input: &PassInput<'_>, edge: usize)
+    requires { (length s.old ≡ 8 * input.now.frame.columns) × (edge % 8 ≡ 0) × (8 ≤ edge)
+        × (edge < input.now.frame.rows) }
+    ensures { Rows input.now.frame.columns (edge - 4) (edge + 4) s.new
+        (pass_in horizontal input.now (seen input.now.frame.columns (edge - 4) s.old)) }
 {
-    let mut x = 0;
-    while x < f.columns {
-        horizontal_segment(s, cells, slices, starts, tcs, k, f, edge, x);
-        x += 4;
+    for x in (0..input.frame.columns).step_by(4) {
+        filter_segment::<Horizontal>(s, input, edge, x);
     }
 }

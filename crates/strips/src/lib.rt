@@ -2,6 +2,7 @@
 // serves luma and chroma.
 #![tactic(auto)]
 
+mod direction;
 mod horizontal;
 mod segment;
 mod vertical;
@@ -10,10 +11,9 @@ pub use horizontal::horizontal_strip;
 use lines::LumaAnswer;
 pub use vertical::vertical_strip;
 
-// What was done at a segment: nothing, the luma filter by this decision, with its counts, or the chroma filter.
+// What was done at a segment that was filtered: the luma filter by this decision, with its counts, or the chroma filter.
 #[derive(Clone, Copy)]
 pub enum Treatment {
-    Closed,
     Luma(LumaAnswer),
     Chroma,
 }

@@ -1,106 +1,48 @@
 // One segment: what is filtered there, and the filter on its window.
-ghost use Rattle.std.specs.Prelude.{◌≡◌, ◌+◌, ◌-◌, ◌*◌, ◌%◌, ◌≤◌, ◌<◌, length};
+ghost use Rattle.std.specs.Prelude.{◌≡◌, ◌+◌, ◌*◌, ◌≤◌, length};
 ghost use Rattle.filter.specs.Kernel.{kernel};
-ghost use Rattle.filter.specs.Segment.{horizontal, vertical};
-ghost use Rattle.strips.specs.Passed.{treatment};
-ghost use Rattle.planes.specs.Window.{Filtered, Strides, taken, window_at};
-ghost use Rattle.segments.specs.Between.{option_of};
-ghost use Rattle.segments.specs.Ready.{Ready};
-ghost use Rattle.segments.specs.Sides.{segment_for};
+ghost use Rattle.planes.specs.Window.{Filtered, taken, window_at};
+ghost use Rattle.segments.specs.Input.{segment_in};
+ghost use Rattle.segments.specs.Sides.{breadth, length_of};
+ghost use Rattle.strips.specs.Passed.{across_in, along_in, base_in, rows_in, treatment};
 
 use crate::Treatment;
-use chroma_windows::{horizontal_chroma, vertical_chroma};
-use filter::{ChromaFilter, Component, LumaFilter};
-use luma_windows::{horizontal_luma, vertical_luma};
-use segments::{
-    Frame, Segment, horizontal_edge, horizontal_filter, vertical_edge, vertical_filter,
-};
+use crate::direction::WindowDirection;
+use filter::{ChromaFilter, LumaFilter};
+use segments::{PassInput, SegmentFilter, edge_at, filter_at};
 
-// The segment of the vertical edge at column e whose first row is l; `s` holds the four rows from there.
-pub(crate) fn vertical_segment(
+// The segment at edge e whose first line is l, filtered in the strip `s` that its window lies in.
+pub(crate) fn filter_segment<D: WindowDirection>(
     s: &mut [u16],
-    cells: &[u8],
-    slices: &[u8],
-    starts: &[u16],
-    tcs: &[u8; 1352],
-    k: Component,
-    f: Frame,
+    input: &PassInput<'_>,
     e: usize,
     l: usize,
-) -> Treatment
-    requires ready { Ready k f cells.now slices.now tcs.now }
-    requires s_len { (length s.old ≡ 4 * f.columns) × (l + 4 ≤ f.rows) × (8 ≤ e) × (e + 4 ≤ f.columns) }
-    ensures filtered { Filtered 4
-        (taken kernel (segment_for vertical k f cells.now slices.now starts.now e l))
-        (e - 4) 1 f.columns s.old s.new }
-    ensures value { result ≡ treatment (segment_for vertical k f cells.now slices.now starts.now e l)
-        (window_at s.old (e - 4) 1 f.columns) }
+) -> Option<Treatment>
+    requires s_len { length s.old ≡ rows_in D.direction * input.now.frame.columns }
+    requires on_edge { (8 ≤ e) × (e + 4 ≤ breadth D.direction input.now.frame)
+        × (l + 4 ≤ length_of D.direction input.now.frame) }
+    ensures filtered { Filtered 4 (taken kernel (segment_in D.direction input.now e l)) (base_in D.direction e l)
+        (across_in D.direction input.now.frame.columns) (along_in D.direction input.now.frame.columns) s.old s.new }
+    ensures value { result ≡ treatment (segment_in D.direction input.now e l)
+        (window_at s.old (base_in D.direction e l) (across_in D.direction input.now.frame.columns)
+        (along_in D.direction input.now.frame.columns)) }
 {
-    if !vertical_edge(cells, k, f, e, l) {
-        return Treatment::Closed;
+    if !edge_at::<D>(input.cells, input.component, input.frame, e, l) {
+        return None;
     }
-    let base = e - 4;
-    match vertical_filter(cells, slices, starts, tcs, k, f, e, l) {
-        Segment::Closed => Treatment::Closed,
-        Segment::Luma { beta, tc } => {
-            let t = LumaFilter {
-                beta,
-                tc,
-                largest: k.largest,
-            };
-            Treatment::Luma(vertical_luma(s, base, f.columns, t))
+    let filter = filter_at::<D>(input, e, l)?;
+    let base = D::base(e, l);
+    let width = input.frame.columns;
+    let largest = input.component.largest;
+    match filter {
+        SegmentFilter::Luma { beta, tc } => {
+            let t = LumaFilter { beta, tc, largest };
+            Some(Treatment::Luma(D::luma(s, base, width, t)))
         }
-        Segment::Chroma { tc } => {
-            let t = ChromaFilter {
-                tc,
-                largest: k.largest,
-            };
-            vertical_chroma(s, base, f.columns, t);
-            Treatment::Chroma
-        }
-    }
-}
-
-// The segment of the horizontal edge at row e whose first column is l; `s` holds the eight rows around the edge.
-pub(crate) fn horizontal_segment(
-    s: &mut [u16],
-    cells: &[u8],
-    slices: &[u8],
-    starts: &[u16],
-    tcs: &[u8; 1352],
-    k: Component,
-    f: Frame,
-    e: usize,
-    l: usize,
-) -> Treatment
-    requires ready { Ready k f cells.now slices.now tcs.now }
-    requires s_len { (length s.old ≡ 8 * f.columns) × (l + 4 ≤ f.columns) × (8 ≤ e) × (e < f.rows) }
-    ensures filtered { Filtered 4
-        (taken kernel (segment_for horizontal k f cells.now slices.now starts.now e l))
-        l f.columns 1 s.old s.new }
-    ensures value { result ≡ treatment (segment_for horizontal k f cells.now slices.now starts.now e l)
-        (window_at s.old l f.columns 1) }
-{
-    if !horizontal_edge(cells, k, f, e, l) {
-        return Treatment::Closed;
-    }
-    match horizontal_filter(cells, slices, starts, tcs, k, f, e, l) {
-        Segment::Closed => Treatment::Closed,
-        Segment::Luma { beta, tc } => {
-            let t = LumaFilter {
-                beta,
-                tc,
-                largest: k.largest,
-            };
-            Treatment::Luma(horizontal_luma(s, l, f.columns, t))
-        }
-        Segment::Chroma { tc } => {
-            let t = ChromaFilter {
-                tc,
-                largest: k.largest,
-            };
-            horizontal_chroma(s, l, f.columns, t);
-            Treatment::Chroma
+        SegmentFilter::Chroma { tc } => {
+            let t = ChromaFilter { tc, largest };
+            D::chroma(s, base, width, t);
+            Some(Treatment::Chroma)
         }
     }
 }

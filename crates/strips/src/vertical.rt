@@ -1,33 +1,20 @@
 // A strip: the segments of the vertical edges of four rows.
-ghost use Rattle.std.specs.Prelude.{◌≡◌, ◌+◌, ◌-◌, ◌*◌, ◌%◌, ◌≤◌, length};
+ghost use Rattle.std.specs.Prelude.{◌≡◌, ◌+◌, ◌*◌, ◌%◌, ◌≤◌, length};
 ghost use Rattle.filter.specs.Segment.{vertical};
-ghost use Rattle.strips.specs.Passed.{pass_for};
 ghost use Rattle.planes.specs.Rows.{Rows, seen};
-ghost use Rattle.segments.specs.Ready.{Ready};
+ghost use Rattle.strips.specs.Passed.{pass_in};
 
-use crate::segment::vertical_segment;
-use filter::Component;
-use segments::Frame;
+use crate::segment::filter_segment;
+use segments::{PassInput, Vertical};
 
-// The vertical edges of the four rows from `row`, of which `s` holds the samples.
-pub fn vertical_strip(
-    s: &mut [u16],
-    cells: &[u8],
-    slices: &[u8],
-    starts: &[u16],
-    tcs: &[u8; 1352],
-    k: Component,
-    f: Frame,
-    row: usize,
-)
-    requires ready { Ready k f cells.now slices.now tcs.now }
-    requires s_len { (length s.old ≡ 4 * f.columns) × (row % 4 ≡ 0) × (row + 4 ≤ f.rows) }
-    ensures { Rows f.columns row (row + 4) s.new
-        (pass_for vertical k f cells.now slices.now starts.now (seen f.columns row s.old)) }
+// The vertical edges of the four rows from `row`, of which `s` holds the samples. It shares no body with a horizontal
+// strip's, which would be no plainer: here the loop goes over edges and there along one, by other steps.
+pub fn vertical_strip(s: &mut [u16], input: &PassInput<'_>, row: usize)
+    requires { (length s.old ≡ 4 * input.now.frame.columns) × (row % 4 ≡ 0) × (row + 4 ≤ input.now.frame.rows) }
+    ensures { Rows input.now.frame.columns row (row + 4) s.new
+        (pass_in vertical input.now (seen input.now.frame.columns row s.old)) }
 {
-    let mut e = 8;
-    while e < f.columns {
-        vertical_segment(s, cells, slices, starts, tcs, k, f, e, row);
-        e += 8;
+    for e in (8..input.frame.columns).step_by(8) {
+        filter_segment::<Vertical>(s, input, e, row);
     }
 }

@@ -2,18 +2,14 @@
 -- Assumes nothing.
 use Prim.Native.Nat.{◌-◌, ◌%◌}
 use mathlib.Core.Path.{◌≡◌}
-use lib.ListN.{length}
 use Rattle.filter.specs.Kernel.{kernel}
 use Rattle.filter.specs.Segment.{horizontal}
 use Rattle.planes.specs.Rows.{seen}
 use Rattle.planes.proofs.Strips.{Segments}
-use Rattle.segments.specs.Sides.{segment_for}
+use Rattle.segments.specs.Input.{segment_in}
 use Rattle.strips.proofs.horizontal.horizontal_strip.Given as goal
 
 abbrev pub invariant-loop-x : goal.invariant-loop-x
-invariant-loop-x l = (l.x % 4 ≡ 0) × (length l.s ≡ length l.initial.s)
-    × Segments kernel l.f.columns l.f.rows l.edge (segment_for horizontal l.k l.f l.cells l.slices l.starts)
-    (seen l.f.columns (l.edge - 4) l.initial.s) l.x l.s
-
-abbrev pub decreases-loop-x : goal.decreases-loop-x
-decreases-loop-x l = l.f.columns - l.x
+invariant-loop-x l = (l.x % 4 ≡ 0)
+    × Segments kernel l.input.frame.columns l.input.frame.rows l.edge (segment_in horizontal l.input)
+    (seen l.input.frame.columns (l.edge - 4) l.initial.s) l.x l.s
