@@ -20,7 +20,8 @@ pub(crate) trait WindowDirection: EdgeDirection {
         ensures { result ≡ base_in Self.direction e l };
 
     fn luma(s: &mut [u16], base: usize, width: usize, t: LumaFilter) -> LumaAnswer
-        requires in_bounds { base + 3 * along_in Self.direction width + 7 * across_in Self.direction width < length s.old }
+        requires in_bounds { base + 3 * along_in Self.direction width + 7 * across_in Self.direction width
+            < length s.old }
         requires strides { Strides (across_in Self.direction width) (along_in Self.direction width) }
         ensures filtered { Filtered 4 (kernel (luma_of t)) base (across_in Self.direction width)
             (along_in Self.direction width) s.old s.new }
@@ -28,7 +29,8 @@ pub(crate) trait WindowDirection: EdgeDirection {
             (window_at s.old base (across_in Self.direction width) (along_in Self.direction width)) };
 
     fn chroma(s: &mut [u16], base: usize, width: usize, t: ChromaFilter)
-        requires in_bounds { base + 3 * along_in Self.direction width + 7 * across_in Self.direction width < length s.old }
+        requires in_bounds { base + 3 * along_in Self.direction width + 7 * across_in Self.direction width
+            < length s.old }
         requires strides { Strides (across_in Self.direction width) (along_in Self.direction width) }
         ensures { Filtered 4 (kernel (chroma_of t)) base (across_in Self.direction width)
             (along_in Self.direction width) s.old s.new };

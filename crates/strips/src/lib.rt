@@ -11,7 +11,7 @@ pub use horizontal::horizontal_strip;
 use lines::LumaAnswer;
 pub use vertical::vertical_strip;
 
-// What was done at a segment that was filtered: the luma filter by this decision, with its counts, or the chroma filter.
+// What was done at an open segment: the luma filter by this decision, with its counts, or the chroma filter.
 #[derive(Clone, Copy)]
 pub enum Treatment {
     Luma(LumaAnswer),
