@@ -24,16 +24,16 @@ pub loop-x-preserved : goal.loop-x-preserved
 loop-x-preserved c = (
   omega (arith, c.loop-x.invariant.0),
   segments_more _ _ _ _ _ _ _ _ _ c.args.input.now.ready.columns4 c.requires.1 c.requires.2 c.requires.3
-      c.loop-x.invariant.0 c.loop-x-test.true c.loop-x.invariant.1 c.filter_segment.ensures.filtered,
+      c.loop-x.invariant.0 (omega arith) c.loop-x.invariant.1 c.filter_segment.ensures.filtered,
 )
 
 pub returns : goal.returns
 returns c =
-    segments_all kernel _ _ _ _ _ _ c.loop-x.s c.loop-x-test.false c.loop-x.invariant.1
+    segments_all kernel _ _ _ _ _ _ c.loop-x.s (omega arith) c.loop-x.invariant.1
 
 -- after the last segment the step would pass the end
 pub returns-2 : goal.returns-2
 returns-2 c =
     segments_all kernel _ _ _ _ _ (c.loop-x.x + 4) c.filter_segment.new.s (omega arith)
     (segments_more _ _ _ _ _ _ _ _ _ c.args.input.now.ready.columns4 c.requires.1 c.requires.2 c.requires.3
-    c.loop-x.invariant.0 c.loop-x-test.true c.loop-x.invariant.1 c.filter_segment.ensures.filtered)
+    c.loop-x.invariant.0 (omega arith) c.loop-x.invariant.1 c.filter_segment.ensures.filtered)

@@ -18,12 +18,12 @@ pub loop-e-preserved : goal.loop-e-preserved
 loop-e-preserved c = (
   omega (arith, c.loop-e.invariant.0),
   columns_more _ _ _ _ _ _ _ _ c.args.input.now.ready.columns4 c.requires.1 c.loop-e.invariant.0 c.loop-e.auto.e
-      c.loop-e-test.true c.loop-e.invariant.1 c.filter_segment.ensures.filtered,
+      (omega arith) c.loop-e.invariant.1 c.filter_segment.ensures.filtered,
 )
 
 pub returns : goal.returns
 returns c =
-    columns_all kernel _ _ _ _ _ c.loop-e.s c.loop-e.invariant.0 c.loop-e-test.false c.loop-e.invariant.1
+    columns_all kernel _ _ _ _ _ c.loop-e.s c.loop-e.invariant.0 (omega arith) c.loop-e.invariant.1
 
 -- after the last edge the step would pass the end
 pub returns-2 : goal.returns-2
@@ -31,4 +31,4 @@ returns-2 c =
     columns_all kernel _ _ _ _ (c.loop-e.e + 8) c.filter_segment.new.s (omega (arith, c.loop-e.invariant.0))
     (omega arith)
     (columns_more _ _ _ _ _ _ _ _ c.args.input.now.ready.columns4 c.requires.1 c.loop-e.invariant.0 c.loop-e.auto.e
-    c.loop-e-test.true c.loop-e.invariant.1 c.filter_segment.ensures.filtered)
+    (omega arith) c.loop-e.invariant.1 c.filter_segment.ensures.filtered)
