@@ -1,15 +1,13 @@
--- The steps of one component's plane: copied, then a pass and a restoration for each direction.
-use Prim.Native.Nat.{ℕ, ◌+◌, ◌*◌, ◌%◌, ◌^◌, ◌≤◌, ◌<◌}
-use mathlib.Core.Path.{◌≡◌, refl, sym, ap, ◌∙◌, subst}
+-- The steps of one component's plane: a pass and a restoration for each direction.
+use Prim.Native.Nat.{ℕ, ◌*◌, ◌%◌, ◌^◌, ◌≤◌}
+use mathlib.Core.Path.{◌≡◌, refl, ◌∙◌, subst}
 use mathlib.Core.Bool.{Bool}
-use mathlib.Core.List.{List, [], ◌∷◌, ◌++◌}
+use mathlib.Core.List.{List}
 use mathlib.Core.Logic.{inl, inr}
-use native.Mathlib.Nat.{mul_comm, mod-eq_of_lt}
-use native.Mathlib.Numerals.{add-one}
+use native.Mathlib.Nat.{mod-eq_of_lt}
 use native.Mathlib.Omega.{arith}
-use lib.ListN.{length, get_or, take, set}
+use lib.ListN.{length}
 use lib.Pow.{pow_mono}
-use lib.Seq.{take-suc, take-suc-set}
 use Rattle.filter.specs.declared.Component.{Component}
 use Rattle.filter.specs.Kernel.{kernel}
 use Rattle.filter.specs.Segment.{Direction, vertical, horizontal}
@@ -18,24 +16,12 @@ use Rattle.planes.specs.Rows.{Holds}
 use Rattle.planes.proofs.Bands.{Local, horizontal_local}
 use Rattle.planes.proofs.Tables.{holds_table, holds_then}
 use Rattle.restore.specs.declared.Restoration.{Restoration}
-use Rattle.restore.specs.Restored.{restored_for, Restorable}
+use Rattle.restore.specs.Restored.{restored_for}
 use Rattle.restore.proofs.Restored.{restored_local}
 use Rattle.segments.specs.declared.Frame.{Frame}
 use Rattle.segments.specs.Ready.{Ready}
 use Rattle.strips.specs.Passed.{pass_for}
-use Rattle.stage.specs.declared.Direction as Code
-use Rattle.stage.specs.Plane.{direction_of, step_for, finished_for, PlaneReady}
-
--- ---- the copy
-
-pub copied_more : (from to : List ℕ) (i : ℕ) → i < length from → length to ≡ length from → take i to ≡ take i from
-    → take (i + 1) (set to i (get_or from i 0)) ≡ take (i + 1) from
-copied_more from to i h len e =
-    ap (λ (n : ℕ). take n (set to i (get_or from i 0))) (add-one i)
-    ∙ take-suc-set to i (get_or from i 0) (omega arith)
-    ∙ ap (λ (l : List ℕ). l ++ (get_or from i 0 ∷ [])) e
-    ∙ sym (take-suc from i 0 h)
-    ∙ ap (λ (n : ℕ). take n from) (sym (add-one i))
+use Rattle.stage.specs.Plane.{step_for, finished_for, PlaneReady}
 
 -- ---- the CTB size, as the code works it out
 
@@ -92,13 +78,6 @@ lent_again len l =
     }
 
 -- ---- a pass and the restoration after it
-
--- a pass over the edges of the direction that is given
-pub passed_as : {d e : Code.Direction} → d ≡ e → (k : Component) (f : Frame)
-    (cells slices starts s0 s1 : List ℕ)
-    → Holds f.columns f.rows s1 (pass_for (direction_of e) k f cells slices starts (at s0 f.columns))
-    → Holds f.columns f.rows s1 (pass_for (direction_of d) k f cells slices starts (at s0 f.columns))
-passed_as told k f cells slices starts s0 s1 h = rw told h
 
 module _ (k : Component) (f : Frame) (pcm : Bool) (original cells slices : List ℕ) where
   -- a plane that holds what the pass leaves, restored

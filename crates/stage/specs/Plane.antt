@@ -7,13 +7,7 @@ use Rattle.restore.specs.declared.Restoration.{Restoration}
 use Rattle.restore.specs.Restored.{Restorable, AnySuppressed, restored_for}
 use Rattle.segments.specs.declared.Frame.{Frame}
 use Rattle.segments.specs.Ready.{Ready}
-use Rattle.stage.specs.declared.Direction as Code
-use Rattle.stage.specs.declared.Direction.TheVariants as Case
 use Rattle.strips.specs.Passed.{pass_for}
-
-abbrev pub direction_of : Code.Direction → Direction
-direction_of Case.Vertical = vertical
-direction_of Case.Horizontal = horizontal
 
 -- a pass with the tile starts of its direction, and the restoration after it
 abbrev pub step_for : Direction → Component → Frame → Bool → List ℕ → List ℕ → List ℕ → List ℕ → Plane → Plane

@@ -6,10 +6,3 @@ mod driver;
 mod plane;
 
 pub use driver::apply_deblocking;
-
-// Which edges a pass is over.
-#[derive(Clone, Copy)]
-enum Direction {
-    Vertical,
-    Horizontal,
-}

@@ -1,28 +1,32 @@
--- `finish_plane` meets its contract: `chain` puts the copy and the two steps together.
+-- `finish_plane` meets its contract: `chain` puts the copy, the passes and the restorations together.
 -- Assumes nothing.
-use mathlib.Core.Path.{◌∙◌}
 use native.Mathlib.Nat.{mul_comm}
-use Rattle.stage.proofs.Steps.{lent_again, chain}
+use native.Mathlib.Omega.{arith}
+use Rattle.filter.specs.Segment.{vertical, horizontal}
+use Rattle.stage.proofs.Steps.{lent_again, stepped, chain}
 use Rattle.stage.proofs.plane.finish_plane.Goals as goal
 
-pub step-requires : goal.step-requires
-step-requires c =
-    lent_again c.copy_samples.auto.to c.requires
+pub restore-requires : goal.restore-requires
+restore-requires c =
+    record { restorable = (lent_again (omega arith) c.requires).lent; any_suppressed = c.requires.any }
 
-pub step-requires-2 : goal.step-requires-2
-step-requires-2 c =
-    lent_again (c.step.auto.out ∙ c.copy_samples.auto.to) c.requires
+pub restore-requires-2 : goal.restore-requires-2
+restore-requires-2 c =
+    record { restorable = (lent_again (omega arith) c.requires).lent; any_suppressed = c.requires.any }
 
 pub returns : goal.returns
 returns c =
     let a = c.args in
-    let long =
-    c.step-2.auto.out
-    ∙ c.step.auto.out
-    ∙ c.copy_samples.auto.to
-    ∙ c.requires.lent.plane_long
-    ∙ mul_comm a.f.rows a.f.columns in
-    chain a.k a.f _ a.original.now a.cells.now a.slices.now c.requires.ready a.columns.now
-    a.rows.now
-    c.copy_samples.new.to c.step.new.out c.step-2.new.out
-    c.copy_samples.ensures c.step.ensures c.step-2.ensures long
+    let o = a.original.now in
+    let first =
+    stepped a.k a.f _ o a.cells.now a.slices.now vertical a.columns.now c.copy_from_slice.new.self
+    c.vertical_pass.new.s c.restore.new.plane
+    c.vertical_pass.ensures c.restore.ensures in
+    let second =
+    stepped a.k a.f _ o a.cells.now a.slices.now horizontal a.rows.now c.restore.new.plane
+    c.horizontal_pass.new.s c.restore-2.new.plane
+    c.horizontal_pass.ensures c.restore-2.ensures in
+    chain a.k a.f _ o a.cells.now a.slices.now c.requires.ready a.columns.now a.rows.now
+    c.copy_from_slice.new.self c.restore.new.plane c.restore-2.new.plane
+    c.copy_from_slice.ensures.after first second
+    (omega (arith, c.requires.lent.plane_long, mul_comm a.f.rows a.f.columns))
