@@ -4,12 +4,9 @@
 use Rattle.luma_windows.proofs.Decided.{window_answered}
 use Rattle.luma_windows.proofs.luma.horizontal_luma.Goals as goal
 
-pub returns-clause-filtered : goal.returns-clause-filtered
-returns-clause-filtered c =
-    (window_answered _ _ _ _ c.decide-d.ensures c.filter_rows.ensures
-    (c.with_counts.ensures.decision, c.with_counts.ensures.counts)).0
-
-pub returns-clause-value : goal.returns-clause-value
-returns-clause-value c =
-    (window_answered _ _ _ _ c.decide-d.ensures c.filter_rows.ensures
-    (c.with_counts.ensures.decision, c.with_counts.ensures.counts)).1
+pub returns : goal.returns
+returns c =
+    let answered =
+    window_answered _ _ _ _ c.decide-d.ensures c.filter_rows.ensures
+    (c.with_counts.ensures.decision, c.with_counts.ensures.counts) in
+    record { filtered = answered.0; value = answered.1 }
