@@ -10,25 +10,11 @@ use Rattle.lines.specs.declared.Line.{Line}
 use Rattle.lines.specs.Decision.{Decision}
 use Rattle.lines.specs.Luma.{luma_line}
 use Rattle.picture.specs.Plane.{Plane}
-use Rattle.picture.proofs.Index.{cases4}
-use Rattle.planes.specs.Window.{window_at, Strides, Filtered}
+use Rattle.planes.specs.Window.{window_at, Filtered}
 use Rattle.planes.proofs.Windows.{window_at_lem, filtered_as}
-use Rattle.window_lines.specs.declared.Lines.{Lines}
-use Rattle.window_lines.specs.Line.{line_at, lines_of, laid}
+use Rattle.window_lines.specs.Line.{line_at}
 use Rattle.luma_windows.specs.Decided.{decided_by, shown, Turned}
 use Rattle.window_lines.proofs.InList.{line_read, sample_of_lem}
-
-pub turned_strides : Strides 4 1
-turned_strides = record { step = omega arith; apart = λ k l m n hk hl hm hn e. (omega arith, omega arith) }
-
--- four lines that were read are the window's, so what is laid out is the window
-pub turned_is : (W : Plane) {ts us : List ℕ} {w : Lines} → w ≡ lines_of W → Filtered 4 (laid w) 0 4 1 ts us
-    → Turned W us
-turned_is W read h i j hi hj =
-    h.within i j hi hj
-    ∙ ap (λ (u : Lines). laid u W i j) read
-    ∙ cases4 (λ (j : ℕ). laid (lines_of W) W i j ≡ W i j)
-    (sample_of_lem W 0 i hi) (sample_of_lem W 1 i hi) (sample_of_lem W 2 i hi) (sample_of_lem W 3 i hi) j hj
 
 -- line j of a turned list is the line j of the window that it shows
 pub shown_line : (ts : List ℕ) (j : ℕ) {l : Line} → j < 4 → l ≡ line_at ts j 4

@@ -1,6 +1,6 @@
 -- Cell rows: which plane's samples one is, and how it is stored.
 use Prim.Native.Nat.{ℕ, ◌+◌, ◌-◌, ◌*◌, ◌/◌, ◌≤◌, ◌<◌}
-use mathlib.Core.Path.{◌≡◌, refl, sym, ap, ap₂, ◌∙◌, subst}
+use mathlib.Core.Path.{◌≡◌, sym, ap, ap₂, ◌∙◌, subst}
 use mathlib.Core.Bool.{Bool, true, false, cond}
 use mathlib.Core.List.{List}
 use mathlib.Core.Logic.{◌⊎◌, inl, inr, ⊎_elim}
@@ -10,9 +10,8 @@ use lib.ListN.{length, get_or, set, length-set}
 use lib.Seq.{get_or-set_same, get_or-set_other}
 use Rattle.ints.proofs.Laws.{either}
 use Rattle.picture.specs.Cell.{suppressed, cell_at, cell_number}
-use Rattle.picture.proofs.Index.{row_le}
 use Rattle.planes.proofs.Parts.{part, length_part, part_at}
-use Rattle.restore.specs.CellRows.{RowRestored, LineRestored}
+use Rattle.restore.specs.CellRows.{RowRestored}
 use Rattle.restore.specs.Restored.{sample_of}
 
 -- ---- the row that the mark selects
@@ -116,9 +115,6 @@ module _ (at : ℕ) (r : List ℕ) where
       right = λ i h. other i (inr h);
     }
 
-pub row_left : (at count : ℕ) (mark : Bool) (os xs : List ℕ) → mark ≡ false → RowRestored at count mark os xs xs
-row_left at count mark os xs m = record { within = λ k h. rw m; left = λ i h. refl; right = λ i h. refl }
-
 -- ---- a row of a plane, cell by cell
 
 -- the samples before t are done
@@ -129,9 +125,6 @@ pub record LineDone (pcm : Bool) (cells : List ℕ) (width row across : ℕ) (os
   pub left : (x : ℕ) → t ≤ x → get_or ys x 0 ≡ get_or xs x 0
 
 module _ (pcm : Bool) (cells : List ℕ) (width row across : ℕ) (os xs : List ℕ) where
-  pub line_none : LineDone pcm cells width row across os xs (0 * across) xs
-  line_none = record { done = λ x h. absurd (omega arith); left = λ x h. refl }
-
   pub line_more : (gx n : ℕ) (mark : Bool) (ys zs : List ℕ) → n ≡ cell_number width gx row
       → mark ≡ suppressed pcm (cell_at cells n)
       → LineDone pcm cells width row across os xs (gx * across) ys → RowRestored (gx * across) across mark os ys zs
@@ -155,7 +148,3 @@ module _ (pcm : Bool) (cells : List ℕ) (width row across : ℕ) (os xs : List 
             (either x (gx * across));
         left = λ x h. w.right x (omega arith) ∙ u.left x (omega arith);
       }
-
-  pub line_all : (gx : ℕ) (ys : List ℕ) → width ≤ gx → LineDone pcm cells width row across os xs (gx * across) ys
-      → LineRestored pcm cells width row across os xs ys
-  line_all gx ys past u x h = let all : width * across ≤ gx * across = row_le across past in u.done x (omega arith)

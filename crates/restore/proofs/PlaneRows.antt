@@ -1,22 +1,22 @@
--- A plane restored row by row: each row is lent, and comes back restored.
+-- A plane restored row by row: each row that is lent comes back restored.
 use Prim.Native.Nat.{ℕ, ◌+◌, ◌-◌, ◌*◌, ◌/◌, ◌≤◌, ◌<◌}
-use mathlib.Core.Path.{◌≡◌, refl, sym, ap, ◌∙◌}
+use mathlib.Core.Path.{◌≡◌, sym, ap, ◌∙◌}
 use mathlib.Core.Bool.{Bool}
 use mathlib.Core.List.{List}
-use native.Mathlib.Nat.{add-mul, mul-le-mul}
+use native.Mathlib.Nat.{add-mul}
 use native.Mathlib.Omega.{arith}
-use lib.ListN.{length, get_or}
+use lib.ListN.{get_or}
 use Rattle.filter.specs.declared.Component.{Component}
-use Rattle.picture.specs.Plane.{Plane, at}
+use Rattle.picture.specs.Plane.{at}
 use Rattle.picture.specs.Scale.{from_luma, to_luma, cell_of}
 use Rattle.picture.proofs.Index.{row_step}
 use Rattle.planes.specs.Rows.{seen, Rows}
-use Rattle.planes.proofs.Parts.{part, length_part, part_at}
+use Rattle.planes.proofs.Parts.{part, part_at}
 use Rattle.segments.specs.declared.Frame.{Frame}
 use Rattle.segments.specs.Sides.{across_for, down_for}
-use Rattle.restore.specs.CellRows.{LineLent, LineRestored}
+use Rattle.restore.specs.CellRows.{LineRestored}
 use Rattle.restore.specs.Restored.{Restorable, restored_for}
-use Rattle.restore.proofs.Restored.{cell_of_lem, few_samples}
+use Rattle.restore.proofs.Restored.{cell_of_lem}
 
 -- row r of a list of rows of w samples
 abbrev pub row_of : ℕ → ℕ → List ℕ → List ℕ
@@ -33,9 +33,6 @@ module _ (k : Component) (f : Frame) {plane original cells : List ℕ} (lent : R
   abbrev w : ℕ
   w = f.columns
 
-  few_cells : f.cell_rows * width ≤ 2048 * 2048
-  few_cells = mul-le-mul lent.high lent.wide
-
   -- row y, its cells in row `row` of cells with `across` samples each
   module _ (y row across : ℕ) (less : y < f.rows) (er : row ≡ cell_of (to_luma (down_for k) y))
       (ea : across ≡ from_luma (across_for k) 4) where
@@ -44,25 +41,6 @@ module _ (k : Component) (f : Frame) {plane original cells : List ℕ} (lent : R
 
     abbrev ends : ((y + 1) * w ≡ y * w + w) × (y * w + w ≤ f.rows * w)
     ends = row_end w f.rows y less
-
-    line_long : (xs : List ℕ) → length xs ≡ f.rows * w → length (row_of w y xs) ≡ width * across
-    line_long xs long =
-        let e = ends in
-        length_part (y * w) ((y + 1) * w - y * w) xs (omega arith) ∙ omega (arith, columns)
-
-    pub line_lent : (xs : List ℕ) → length xs ≡ length plane
-        → LineLent width row across (row_of w y xs) (row_of w y original) cells
-    line_lent xs long =
-        let r : row * width + width ≤ f.cell_rows * width = row_step width (omega (arith, lent.down y less)) in
-        let few = few_samples (across_for k) lent.sampled in
-        record {
-          across_low = omega arith;
-          across_high = omega arith;
-          line_long = line_long xs (long ∙ lent.plane_long);
-          original_long = line_long original lent.original_long;
-          cells_long = omega (arith, lent.cells_long);
-          cells_few = omega (arith, few_cells);
-        }
 
     -- a row that was lent and restored is that row of the plane restored
     pub line_row : (pcm : Bool) (xs ys : List ℕ)

@@ -1,8 +1,8 @@
 -- Restoration by cells, for every sampling of a plane: a sample's cell, planes with no suppressed cell, and the
 -- filter's definition.
 use Prim.Native.Nat.{ℕ, ◌*◌, ◌/◌, ◌%◌, ◌≤◌, ◌<◌}
-use mathlib.Core.Path.{◌≡◌, refl, sym, ap, ◌∙◌}
-use mathlib.Core.Bool.{Bool, false, cond}
+use mathlib.Core.Path.{◌≡◌, refl, sym, ap}
+use mathlib.Core.Bool.{Bool, false}
 use mathlib.Core.List.{List}
 use native.Mathlib.Nat.{div-lt_iff_lt-mul}
 use native.Mathlib.Omega.{arith}
@@ -10,7 +10,7 @@ use lib.ListN.{length}
 use Rattle.filter.specs.declared.Component as Code
 use Rattle.filter.specs.Finished.{restored}
 use Rattle.picture.specs.Cell.{suppressed, cell_at, cell_number}
-use Rattle.picture.specs.Picture.{Picture, original, plane_width, plane_height}
+use Rattle.picture.specs.Picture.{Picture, original}
 use Rattle.picture.specs.Plane.{Plane, at}
 use Rattle.picture.specs.Scale.{Component, Y, Cb, Cr, Sampling, whole, halved, absent, from_luma, to_luma, cell_of}
 use Rattle.picture.proofs.Index.{within_rows}

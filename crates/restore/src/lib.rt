@@ -10,7 +10,8 @@ pub use marks::restoration_of;
 pub use plane::restore;
 pub use rows::cell_row;
 
-// The switch for PCM cells, and whether any cell is suppressed with it. Where none is, nothing is restored.
+// The switch for PCM cells, and whether any cell is suppressed with it. Where none is, nothing is restored. It is no
+// Option: the clauses of `restore` name the switch (`restored_for`) also where no cell is suppressed.
 #[derive(Clone, Copy)]
 pub struct Restoration {
     pub pcm: bool,

@@ -18,15 +18,7 @@ pub(crate) fn sample_suppressed(cells: &[u8], pcm: bool, n: usize) -> bool
 fn any_suppressed(cells: &[u8], pcm: bool) -> bool
     ensures { AnySuppressed pcm cells.now result }
 {
-    let count = cells.len() / 8;
-    let mut n = 0;
-    while n < count {
-        if sample_suppressed(cells, pcm, n) {
-            return true;
-        }
-        n += 1;
-    }
-    false
+    (0..cells.len() / 8).any(|n| sample_suppressed(cells, pcm, n))
 }
 
 // The restoration of a picture with these cells, the same for each of its planes.

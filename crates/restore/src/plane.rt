@@ -36,8 +36,7 @@ fn restore_rows(
         (restored_for pcm cells.now k f (at original.now f.columns) (at plane.old f.columns)) }
 {
     let across = cell_columns(k);
-    let mut y = 0;
-    while y < f.rows {
+    for y in 0..f.rows {
         let a = y * f.columns;
         let b = (y + 1) * f.columns;
         let row = row_of_cells(luma_row_at(k, y));
@@ -50,7 +49,6 @@ fn restore_rows(
             row,
             across,
         );
-        y += 1;
     }
 }
 

@@ -32,6 +32,7 @@ fn restore_row(line: &mut [u16], original: &[u16], at: usize, count: usize, supp
 {
     let row = cell_row(original, &line[..], at, count, suppressed);
     if suppressed {
+        // Not `copy_from_slice`: the row may be lent from `line` (document 01 asks for `cell_row`, docs/DECISIONS.md, 12).
         // Of two samples the last two are the first two once more.
         let a = row[0];
         let b = row[1];
@@ -58,11 +59,9 @@ pub(crate) fn restore_line(
     requires { LineLent width.0 row across line.old original.now cells.now }
     ensures { LineRestored pcm cells.now width.0 row across original.now line.old line.new }
 {
-    let mut gx = 0;
-    while gx < width.0 {
+    for gx in 0..width.0 {
         let n = cell_number(width, CellColumn(gx), row);
         let suppressed = sample_suppressed(cells, pcm, n);
         restore_row(line, original, gx * across, across, suppressed);
-        gx += 1;
     }
 }

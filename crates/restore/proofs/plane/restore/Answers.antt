@@ -3,14 +3,6 @@
 use Rattle.restore.proofs.Restored.{restored_already}
 use Rattle.restore.proofs.plane.restore.Goals as goal
 
-pub restore_rows-requires : goal.restore_rows-requires
-restore_rows-requires c =
-    c.requires.restorable
-
-pub returns-then-r : goal.returns-then-r
-returns-then-r c =
-    c.restore_rows.ensures
-
 pub returns-else-r : goal.returns-else-r
 returns-else-r c =
     restored_already _ _ c.requires.restorable _ (c.requires.any_suppressed.none c.if-r.false)
