@@ -2,66 +2,48 @@
 // and chroma.
 #![tactic(auto)]
 
-ghost use Rattle.std.specs.Prelude.{◌≡◌, ◌+◌, ◌-◌, ◌*◌, ◌%◌, ◌≤◌, ◌<◌, length};
+ghost use Rattle.std.specs.Prelude.{◌≡◌, ◌-◌, ◌*◌, ◌≤◌, length};
 ghost use Rattle.filter.specs.Bands.{Seam};
 ghost use Rattle.filter.specs.Segment.{horizontal};
-ghost use Rattle.strips.specs.Passed.{pass_for};
 ghost use Rattle.picture.specs.Plane.{at};
 ghost use Rattle.planes.specs.Rows.{Holds, Rows, seen};
-ghost use Rattle.segments.specs.Ready.{Ready};
+ghost use Rattle.strips.specs.Passed.{pass_in};
 
-use filter::{Component, horiz_band_end};
-use segments::Frame;
+use filter::horiz_band_end;
+use segments::PassInput;
 use strips::horizontal_strip;
 
-// The horizontal edges of the rows from `row0` to `row1`, strip by strip.
-fn horizontal_band(
-    s: &mut [u16],
-    cells: &[u8],
-    slices: &[u8],
-    starts: &[u16],
-    tcs: &[u8; 1352],
-    k: Component,
-    f: Frame,
-    row0: usize,
-    row1: usize,
-)
-    requires ready { Ready k f cells.now slices.now tcs.now }
-    requires s_len { (length s.old ≡ (row1 - row0) * f.columns) × (row0 ≤ row1) × (row1 ≤ f.rows) }
-    requires seam { Seam f.rows row0 × Seam f.rows row1 }
-    ensures { Rows f.columns row0 row1 s.new
-        (pass_for horizontal k f cells.now slices.now starts.now (seen f.columns row0 s.old)) }
+// The horizontal edges of the rows from `row0` to `row1`, of which `s` holds the samples, strip by strip.
+fn horizontal_band(s: &mut [u16], input: &PassInput<'_>, row0: usize, row1: usize)
+    requires s_len { (length s.old ≡ (row1 - row0) * input.now.frame.columns)
+        × (row0 ≤ row1) × (row1 ≤ input.now.frame.rows) }
+    requires seam { Seam input.now.frame.rows row0 × Seam input.now.frame.rows row1 }
+    ensures { Rows input.now.frame.columns row0 row1 s.new
+        (pass_in horizontal input.now (seen input.now.frame.columns row0 s.old)) }
 {
-    let mut e = (row0 / 8 + 1) * 8;
-    while e < row1 {
-        let a = (e - 4 - row0) * f.columns;
-        let b = (e + 4 - row0) * f.columns;
-        horizontal_strip(&mut s[a..b], cells, slices, starts, tcs, k, f, e);
-        e += 8;
+    let columns = input.frame.columns;
+    let first = (row0 / 8 + 1) * 8;
+    for e in (first..row1).step_by(8) {
+        let a = (e - 4 - row0) * columns;
+        let b = (e + 4 - row0) * columns;
+        horizontal_strip(&mut s[a..b], input, e);
     }
 }
 
 // The horizontal edges of a whole plane, band by band.
-pub fn horizontal_pass(
-    s: &mut [u16],
-    cells: &[u8],
-    slices: &[u8],
-    starts: &[u16],
-    tcs: &[u8; 1352],
-    k: Component,
-    f: Frame,
-)
-    requires ready { Ready k f cells.now slices.now tcs.now }
-    requires s_len { length s.old ≡ f.rows * f.columns }
-    ensures { Holds f.columns f.rows s.new
-        (pass_for horizontal k f cells.now slices.now starts.now (at s.old f.columns)) }
+pub fn horizontal_pass(s: &mut [u16], input: &PassInput<'_>)
+    requires { length s.old ≡ input.now.frame.rows * input.now.frame.columns }
+    ensures { Holds input.now.frame.columns input.now.frame.rows s.new
+        (pass_in horizontal input.now (at s.old input.now.frame.columns)) }
 {
+    let f = input.frame;
     let mut r = 0;
+    // No range: `horiz_band_end` says where a band ends.
     while r < f.rows {
         let end = horiz_band_end(f.rows, f.band, r);
         let a = r * f.columns;
         let b = end * f.columns;
-        horizontal_band(&mut s[a..b], cells, slices, starts, tcs, k, f, r, end);
+        horizontal_band(&mut s[a..b], input, r, end);
         r = end;
     }
 }

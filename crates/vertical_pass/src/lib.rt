@@ -1,66 +1,47 @@
 // The pass over a component's vertical edges, in place: the strips of a band, the bands of a plane. It serves luma and
-// chroma.
+// chroma. It shares no body with the pass over horizontal edges (horizontal_pass), which would be no plainer: a band's
+// first edge and end, the step from strip to strip and the rows lent to one are all others there.
 #![tactic(auto)]
 
-ghost use Rattle.std.specs.Prelude.{◌≡◌, ◌+◌, ◌-◌, ◌*◌, ◌%◌, ◌≤◌, length};
+ghost use Rattle.std.specs.Prelude.{◌≡◌, ◌-◌, ◌*◌, ◌%◌, ◌≤◌, length};
 ghost use Rattle.filter.specs.Segment.{vertical};
-ghost use Rattle.strips.specs.Passed.{pass_for};
 ghost use Rattle.picture.specs.Plane.{at};
 ghost use Rattle.planes.specs.Rows.{Holds, Rows, seen};
-ghost use Rattle.segments.specs.Ready.{Ready};
+ghost use Rattle.strips.specs.Passed.{pass_in};
 
-use filter::{Component, ctb_band_end};
-use segments::Frame;
+use filter::ctb_band_end;
+use segments::PassInput;
 use strips::vertical_strip;
 
 // The vertical edges of the rows from `row0` to `row1`, of which `s` holds the samples, strip by strip.
-fn vertical_band(
-    s: &mut [u16],
-    cells: &[u8],
-    slices: &[u8],
-    starts: &[u16],
-    tcs: &[u8; 1352],
-    k: Component,
-    f: Frame,
-    row0: usize,
-    row1: usize,
-)
-    requires ready { Ready k f cells.now slices.now tcs.now }
-    requires s_len { (length s.old ≡ (row1 - row0) * f.columns)
-        × (row0 % 4 ≡ 0) × (row1 % 4 ≡ 0) × (row1 ≤ f.rows) }
-    ensures { Rows f.columns row0 row1 s.new
-        (pass_for vertical k f cells.now slices.now starts.now (seen f.columns row0 s.old)) }
+fn vertical_band(s: &mut [u16], input: &PassInput<'_>, row0: usize, row1: usize)
+    requires { (length s.old ≡ (row1 - row0) * input.now.frame.columns)
+        × (row0 % 4 ≡ 0) × (row1 % 4 ≡ 0) × (row1 ≤ input.now.frame.rows) }
+    ensures { Rows input.now.frame.columns row0 row1 s.new
+        (pass_in vertical input.now (seen input.now.frame.columns row0 s.old)) }
 {
-    let mut r = row0;
-    while r < row1 {
-        let a = (r - row0) * f.columns;
-        let b = (r + 4 - row0) * f.columns;
-        vertical_strip(&mut s[a..b], cells, slices, starts, tcs, k, f, r);
-        r += 4;
+    let columns = input.frame.columns;
+    for r in (row0..row1).step_by(4) {
+        let a = (r - row0) * columns;
+        let b = (r + 4 - row0) * columns;
+        vertical_strip(&mut s[a..b], input, r);
     }
 }
 
 // The vertical edges of a whole plane, band by band.
-pub fn vertical_pass(
-    s: &mut [u16],
-    cells: &[u8],
-    slices: &[u8],
-    starts: &[u16],
-    tcs: &[u8; 1352],
-    k: Component,
-    f: Frame,
-)
-    requires ready { Ready k f cells.now slices.now tcs.now }
-    requires s_len { length s.old ≡ f.rows * f.columns }
-    ensures { Holds f.columns f.rows s.new
-        (pass_for vertical k f cells.now slices.now starts.now (at s.old f.columns)) }
+pub fn vertical_pass(s: &mut [u16], input: &PassInput<'_>)
+    requires { length s.old ≡ input.now.frame.rows * input.now.frame.columns }
+    ensures { Holds input.now.frame.columns input.now.frame.rows s.new
+        (pass_in vertical input.now (at s.old input.now.frame.columns)) }
 {
+    let f = input.frame;
     let mut r = 0;
+    // No range: `ctb_band_end` says where a band ends.
     while r < f.rows {
         let end = ctb_band_end(f.rows, f.band, r);
         let a = r * f.columns;
         let b = end * f.columns;
-        vertical_band(&mut s[a..b], cells, slices, starts, tcs, k, f, r, end);
+        vertical_band(&mut s[a..b], input, r, end);
         r = end;
     }
 }

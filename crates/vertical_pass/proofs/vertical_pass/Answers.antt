@@ -8,61 +8,41 @@ use Rattle.filter.specs.Bands.{ctb_band_end}
 use Rattle.filter.specs.Kernel.{kernel}
 use Rattle.filter.specs.Segment.{vertical}
 use Rattle.filter.proofs.AllBands.{ctb_start, ctb_next}
-use Rattle.picture.specs.Plane.{Plane, at}
 use Rattle.picture.proofs.Index.{row_le, rows_between}
-use Rattle.planes.proofs.Bands.{plane_none, plane_all, plane_more, vertical_local}
-use Rattle.strips.specs.Passed.{pass_for}
+use Rattle.planes.proofs.Bands.{plane_none, plane_more, vertical_local}
+use Rattle.strips.specs.Passed.{pass_in}
 use Rattle.vertical_pass.proofs.vertical_pass.Goals as goal
-use Rattle.vertical_pass.proofs.vertical_pass.Goals.{Start, After-ctb_band_end-end}
-
--- the pass, by the function's arguments
-abbrev T : Start → Plane → Plane
-T c =
-    let a = c.args in
-    pass_for vertical a.k a.f a.cells.now a.slices.now a.starts.now
+use Rattle.vertical_pass.proofs.vertical_pass.Goals.{After-ctb_band_end-end}
 
 -- the band, and what the products come to
-room : (c : After-ctb_band_end-end) → let st = c.args in
+room : (c : After-ctb_band_end-end) → let f = c.args.input.now.frame in
     let at = c.loop-r in
     let end = c.ctb_band_end-end.result in
-    (at.r < end) × (end ≤ st.f.rows) × (end % 4 ≡ 0)
-    × (end * st.f.columns ≡ at.r * st.f.columns + (end - at.r) * st.f.columns)
-    × (end * st.f.columns ≤ length at.s)
+    (at.r < end) × (end ≤ f.rows) × (end % 4 ≡ 0)
+    × (end * f.columns ≡ at.r * f.columns + (end - at.r) * f.columns)
+    × (end * f.columns ≤ length at.s)
 unfolding ctb_band_end
 room c =
-    let f = c.args.f in
-    let at = c.loop-r in
+    let ready = c.args.input.now.ready in
+    let f = c.args.input.now.frame in
     let end = c.ctb_band_end-end.result in
-    let rises : at.r < end = omega (arith, c.requires.ready.band_some) in
+    let rises : c.loop-r.r < end = omega (arith, ready.band_some) in
     let within : end ≤ f.rows = omega arith in
     let m : end * f.columns ≤ f.rows * f.columns = row_le f.columns within in (
       rises,
       within,
-      omega (arith, c.requires.ready.rows4, c.requires.ready.band4),
-      rows_between f.columns
-          (omega arith),
+      omega (arith, ready.rows4, ready.band4),
+      rows_between f.columns (omega arith),
       omega arith,
     )
 
 pub loop-r-init : goal.loop-r-init
 loop-r-init c =
-    (refl, omega arith, refl, plane_none _ _ (T (goal.at.loop-r-init c).Start) c.args.s.now, ctb_start _ _)
-
-pub ctb_band_end-end-requires : goal.ctb_band_end-end-requires
-ctb_band_end-end-requires c =
-    omega (arith, c.requires.ready.rows_most, c.requires.ready.band_most)
-
-pub overflow_mul-a : goal.overflow_mul-a
-overflow_mul-a c =
-    omega (arith, (room (goal.at.overflow_mul-a c).After-ctb_band_end-end))
+    (refl, omega arith, plane_none _ _ (pass_in vertical c.args.input.now) c.args.s.now, ctb_start _ _)
 
 pub overflow_mul-b : goal.overflow_mul-b
 overflow_mul-b c =
     omega (arith, (room (goal.at.overflow_mul-b c).After-ctb_band_end-end))
-
-pub offset_bounds-s-a : goal.offset_bounds-s-a
-offset_bounds-s-a c =
-    omega (arith, (room (goal.at.offset_bounds-s-a c).After-ctb_band_end-end))
 
 pub slice_bounds-vertical_band-count : goal.slice_bounds-vertical_band-count
 slice_bounds-vertical_band-count c =
@@ -78,11 +58,7 @@ slice_bounds-vertical_band-end c =
 
 pub vertical_band-requires : goal.vertical_band-requires
 vertical_band-requires c =
-    record {
-      ready = c.requires.ready;
-      s_len = omega
-          (arith, (room (goal.at.vertical_band-requires c).After-ctb_band_end-end));
-    }
+    omega (arith, c.loop-r.invariant.0, (room (goal.at.vertical_band-requires c).After-ctb_band_end-end))
 
 pub loop-r-smaller : goal.loop-r-smaller
 loop-r-smaller c =
@@ -90,24 +66,14 @@ loop-r-smaller c =
 
 pub loop-r-preserved : goal.loop-r-preserved
 loop-r-preserved c =
+    let ready = c.args.input.now.ready in
     let at = c.loop-r in
-    let end = c.ctb_band_end-end.result in
     let band = c.vertical_band in
-    let r = (room (goal.at.loop-r-preserved c).After-ctb_band_end-end) in (
+    let r = room (goal.at.loop-r-preserved c).After-ctb_band_end-end in (
       r.2,
       r.1,
-      omega arith,
-      plane_more _ _ at.r end (T (goal.at.loop-r-preserved c).Start)
-          (vertical_local kernel _ _ _ _ c.requires.ready.columns4 at.invariant.0 r.2) _
-          at.s band.new.s (omega arith) r.1 r.4 band.auto.s band.ensures at.invariant.3,
-      ctb_next c.ctb_band_end-end.ensures c.requires.ready.band_some (omega arith) at.invariant.4,
+      plane_more _ _ at.r c.ctb_band_end-end.result (pass_in vertical c.args.input.now)
+          (vertical_local kernel _ _ _ _ ready.columns4 at.invariant.0 r.2) _
+          at.s band.new.s (omega arith) r.1 r.4 band.auto.s band.ensures at.invariant.2,
+      ctb_next c.ctb_band_end-end.ensures ready.band_some (omega arith) at.invariant.3,
     )
-
-pub shape_of-s : goal.shape_of-s
-shape_of-s c =
-    c.loop-r.invariant.2
-
-pub returns : goal.returns
-returns c =
-    let at = c.loop-r in
-    plane_all _ _ _ (T (goal.at.returns c).Start) _ at.s (omega arith) at.invariant.3

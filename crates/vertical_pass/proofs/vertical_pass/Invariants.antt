@@ -2,20 +2,20 @@
 -- Assumes nothing.
 use Prim.Native.Nat.{◌-◌, ◌%◌, ◌≤◌}
 use mathlib.Core.Path.{◌≡◌}
-use lib.ListN.{length}
 use Rattle.filter.specs.Bands.{ctb_bands, ctb_band_end}
 use Rattle.filter.specs.Segment.{vertical}
 use Rattle.filter.proofs.AllBands.{Through}
 use Rattle.picture.specs.Plane.{at}
 use Rattle.planes.proofs.Bands.{DoneTo}
-use Rattle.strips.specs.Passed.{pass_for}
+use Rattle.strips.specs.Passed.{pass_in}
 use Rattle.vertical_pass.proofs.vertical_pass.Given as goal
 
 abbrev pub invariant-loop-r : goal.invariant-loop-r
-invariant-loop-r l = (l.r % 4 ≡ 0) × (l.r ≤ l.f.rows) × (length l.s ≡ length l.initial.s)
-    × DoneTo l.f.columns l.f.rows (pass_for vertical l.k l.f l.cells l.slices l.starts) (at l.initial.s l.f.columns)
-    l.r l.s
-    × Through (ctb_bands l.f.rows l.f.band) (ctb_band_end l.f.rows l.f.band) l.f.rows l.r
+invariant-loop-r l =
+    let f = l.input.frame in
+    (l.r % 4 ≡ 0) × (l.r ≤ f.rows)
+    × DoneTo f.columns f.rows (pass_in vertical l.input) (at l.initial.s f.columns) l.r l.s
+    × Through (ctb_bands f.rows f.band) (ctb_band_end f.rows f.band) f.rows l.r
 
 abbrev pub decreases-loop-r : goal.decreases-loop-r
-decreases-loop-r l = l.f.rows - l.r
+decreases-loop-r l = l.input.frame.rows - l.r
