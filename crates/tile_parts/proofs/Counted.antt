@@ -1,22 +1,21 @@
 -- The count of differing samples, sample by sample and row by row.
 use Prim.Native.Nat.{ℕ, zero, suc, ◌+◌, ◌*◌, ◌≤◌, ◌<◌}
-use mathlib.Core.Path.{◌≡◌, sym, ap, ap₂, ◌∙◌}
-use mathlib.Core.Bool.{Bool, true, false, cond}
-use mathlib.Core.List.{List}
+use mathlib.Core.Path.{◌≡◌, refl, sym, ap, ap₂, ◌∙◌}
+use mathlib.Core.Bool.{Bool, true, false, cond, not}
+use mathlib.Core.List.{List, [], ◌∷◌}
 use native.Mathlib.Nat.{add_comm, mul-le-mul}
 use native.Mathlib.Numerals.{add-one}
 use native.Mathlib.Omega.{arith}
-use borrow.Author.Tests.{eq-eqb, ne_eqb}
 use lib.Dec.{eqb}
-use lib.ListN.{length, get_or}
+use lib.ListN.{length, get_or, take, drop, length-take, length-drop}
+use lib.Seq.{get_or-drop, get_or-take}
+use Rattle.std.specs.List.{filter, zip}
 use Rattle.ints.proofs.Sums.{sum_ext}
 use Rattle.ints.specs.Sum.{sum}
 use Rattle.filter.specs.Count.{differ, differing}
 use Rattle.picture.specs.Plane.{Part, at}
-use Rattle.picture.proofs.Index.{row_step}
 use Rattle.tiles_apart.proofs.Parts.{index}
-use Rattle.tile_parts.specs.Parts.{Room, RowRoom, differing_row}
-use Rattle.tile_parts.proofs.Cropped.{room_small}
+use Rattle.tile_parts.specs.Parts.{Room, differing_row}
 
 differ_most : (m n : ℕ) → differ m n ≤ 1
 differ_most m n = go (eqb m n)
@@ -27,40 +26,34 @@ differ_most m n = go (eqb m n)
 
 -- ---- a row
 
-module _ (cut : List ℕ) (own : ℕ) (out : List ℕ) (start : ℕ) where
-  -- sample x
-  abbrev one : ℕ → ℕ
-  one x = differ (get_or cut (own + x) 0) (get_or out (start + x) 0)
+-- a sum from its first number on
+sum_first : (n : ℕ) (f : ℕ → ℕ) → sum (suc n) f ≡ f 0 + sum n (λ k. f (suc k))
+sum_first zero f = omega arith
+sum_first (suc n) f = omega (arith, sum_first n f)
 
-  -- the first x samples
-  abbrev pub row_to : ℕ → ℕ
-  row_to x = sum x one
+-- the pairs that differ, counted
+pub pairs_counted : (own out : List ℕ) → length out ≡ length own
+    → length (filter (λ p. not (eqb p.0 p.1)) (zip own out)) ≡ differing_row own out
+unfolding differing_row
+pairs_counted [] out long = refl
+pairs_counted (m ∷ own) [] long = absurd (omega arith)
+pairs_counted (m ∷ own) (n ∷ out) long =
+    one (eqb m n) (filter (λ p. not (eqb p.0 p.1)) (zip own out))
+    ∙ ap (λ (k : ℕ). differ m n + k) (pairs_counted own out (omega arith))
+    ∙ sym (sum_first (length own) (λ x. differ (get_or (m ∷ own) x 0) (get_or (n ∷ out) x 0)))
+  where
+    one : (t : Bool) (l : List (ℕ × ℕ)) → length (cond (not t) ((m, n) ∷ l) l) ≡ cond t 0 1 + length l
+    one true l = omega arith
+    one false l = omega arith
 
-  row_most : (n : ℕ) → row_to n ≤ n
-  row_most zero = omega arith
-  row_most (suc n) = omega (arith, row_most n, differ_most (get_or cut (own + n) 0) (get_or out (start + n) 0))
-
-  pub row_same : {n : ℕ} (x : ℕ) → n ≡ row_to x → get_or cut (own + x) 0 ≡ get_or out (start + x) 0 → n ≡ row_to (x + 1)
-  row_same {n} x e same =
-      let none : one x ≡ 0 = rw (eq-eqb _ _ same) in
-      let next : n ≡ row_to x + one x = omega (arith, e, none) in
-      next ∙ ap row_to (sym (add-one x))
-
-  pub row_differs : {n : ℕ} (x : ℕ) → n ≡ row_to x → (get_or cut (own + x) 0 ≡ get_or out (start + x) 0 → ⊥)
-      → n + 1 ≡ row_to (x + 1)
-  row_differs {n} x e apart =
-      let some : one x ≡ 1 = rw (ne_eqb _ _ apart) in
-      let next : n + 1 ≡ row_to x + one x = omega (arith, e, some) in
-      next ∙ ap row_to (sym (add-one x))
-
-  pub row_is : {n x count : ℕ} → x ≡ count → n ≡ row_to x → n ≡ differing_row cut own out start count
-  unfolding differing_row
-  row_is e h = h ∙ ap row_to e
-
-  -- a row has no more than its samples
-  pub row_few : {r count : ℕ} → r ≡ differing_row cut own out start count → r ≤ count
-  unfolding differing_row
-  row_few {r} {count} e = omega (arith, e, row_most count)
+-- a row has no more than its samples
+row_few : (own out : List ℕ) {r : ℕ} → r ≡ differing_row own out → r ≤ length own
+unfolding differing_row
+row_few own out e = omega (arith, most (length own))
+  where
+    most : (n : ℕ) → sum n (λ x. differ (get_or own x 0) (get_or out x 0)) ≤ n
+    most zero = omega arith
+    most (suc n) = omega (arith, most n, differ_most (get_or own n 0) (get_or out n 0))
 
 -- ---- a plane
 
@@ -71,48 +64,54 @@ module _ (cut out : List ℕ) (stride : ℕ) (part : Part) where
       sum y
       (λ y. sum part.width (λ x. differ (at cut part.width x y) (at out stride (x + part.x) (y + part.y))))
 
-  -- the samples of row y that differ
-  abbrev pub row_at : ℕ → ℕ
-  row_at y = differing_row cut (y * part.width) out ((part.y + y) * stride + part.x) part.width
+  -- row y of each
+  abbrev pub cut_row : ℕ → List ℕ
+  cut_row y = take part.width (drop (y * part.width) cut)
 
-  pub rows_more : {n r : ℕ} (y : ℕ) → n ≡ rows_to y → r ≡ row_at y → n + r ≡ rows_to (y + 1)
+  abbrev pub out_row_at : ℕ → List ℕ
+  out_row_at y = take part.width (drop ((part.y + y) * stride + part.x) out)
+
+  -- the rows as the code reads them, i samples and j
+  pub rows_read : (y : ℕ) {r i j : ℕ} → i ≡ part.width → j ≡ part.width
+      → r ≡ differing_row (take i (drop (y * part.width) cut)) (take j (drop ((part.y + y) * stride + part.x) out))
+      → r ≡ differing_row (cut_row y) (out_row_at y)
+  rows_read y ei ej e =
+      e
+      ∙ (λ k. differing_row (take (ei k) (drop (y * part.width) cut))
+      (take (ej k) (drop ((part.y + y) * stride + part.x) out)))
+
+  pub rows_few : (y : ℕ) {r : ℕ} → r ≡ differing_row (cut_row y) (out_row_at y) → r ≤ part.width
+  rows_few y e = omega (arith, row_few (cut_row y) (out_row_at y) e, length-take part.width (drop (y * part.width) cut))
+
+  pub rows_more : {n r : ℕ} (y : ℕ) → y * part.width + part.width ≤ length cut → n ≡ rows_to y
+      → r ≡ differing_row (cut_row y) (out_row_at y) → n + r ≡ rows_to (y + 1)
   unfolding differing_row at
-  rows_more y e h =
+  rows_more y inside e h =
       let same : (part.y + y) * stride ≡ (y + part.y) * stride =
       ap (λ (k : ℕ). k * stride) (add_comm part.y y) in
-      let moved : (x : ℕ) → (part.y + y) * stride + part.x + x ≡ (y + part.y) * stride + (x + part.x) =
-      λ x. omega (arith, same) in
-      ap₂ ◌+◌ e
-      (h
-      ∙ sum_ext part.width _ _
-      (λ x hx. ap (differ (get_or cut (y * part.width + x) 0)) (index out (moved x))))
+      let long : length (cut_row y) ≡ part.width = simp (length-take, length-drop) (omega arith) in
+      let one : (x : ℕ) → x < part.width
+      → differ (get_or (cut_row y) x 0) (get_or (out_row_at y) x 0)
+      ≡ differ (at cut part.width x y) (at out stride (x + part.x) (y + part.y)) =
+      λ x hx. ap₂ differ
+      (get_or-take part.width (drop (y * part.width) cut) x 0 hx ∙ get_or-drop (y * part.width) cut x 0)
+      (get_or-take part.width (drop ((part.y + y) * stride + part.x) out) x 0 hx
+      ∙ get_or-drop ((part.y + y) * stride + part.x) out x 0
+      ∙ index out (omega (arith, same))) in
+      ap₂ ◌+◌ e (h
+      ∙ ap (λ (k : ℕ). sum k (λ x. differ (get_or (cut_row y) x 0) (get_or (out_row_at y) x 0))) long
+      ∙ sum_ext part.width _ _ one)
       ∙ ap rows_to (sym (add-one y))
 
   pub rows_all : {n y : ℕ} → y ≡ part.height → n ≡ rows_to y → n ≡ differing (at cut part.width) (at out stride) part
   unfolding differing
   rows_all e h = h ∙ ap rows_to e
 
--- a part of a list of rows, and a list of the part's own size
-module _ (cut : List ℕ) {out : List ℕ} {stride : ℕ} {part : Part} (room : Room part stride out)
-    (long : length cut ≡ part.width * part.height) where
-  pub cut_small : length cut ≤ 4294967296
-  cut_small =
-      let w : part.width ≤ 65536 = omega (arith, room.columns, room.wide) in
-      let h : part.height ≤ 65536 = omega (arith, room.down, room.high) in
-      let m : part.width * part.height ≤ 65536 * 65536 = mul-le-mul w h in
-      omega (arith, long)
-
-  pub own_row : {y : ℕ} → y < part.height → RowRoom (y * part.width) part.width cut
-  own_row h = record { inside = omega (arith, long, row_step part.width h); small = cut_small }
-
-  pub out_row : {y : ℕ} → y < part.height → RowRoom ((part.y + y) * stride + part.x) part.width out
-  out_row {y} h = record {
-    inside =
-        omega (
-          arith,
-          room.long,
-          room.columns,
-          row_step stride {r = part.y + y} {q = room.rows} (omega (arith, room.down)),
-        );
-    small = room_small room;
-  }
+-- a list of a part's own size is small
+pub cut_small : (cut : List ℕ) {out : List ℕ} {stride : ℕ} {part : Part} → Room part stride out
+    → length cut ≡ part.width * part.height → length cut ≤ 4294967296
+cut_small cut {part = part} room long =
+    let w : part.width ≤ 65536 = omega (arith, room.columns, room.wide) in
+    let h : part.height ≤ 65536 = omega (arith, room.down, room.high) in
+    let m : part.width * part.height ≤ 65536 * 65536 = mul-le-mul w h in
+    omega (arith, long)

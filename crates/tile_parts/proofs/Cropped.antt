@@ -1,77 +1,91 @@
--- A part of a list of rows, copied index by index.
-use Prim.Native.Nat.{ℕ, ◌+◌, ◌*◌, ◌/◌, ◌%◌, ◌≤◌, ◌<◌}
-use mathlib.Core.Path.{◌≡◌, sym, ◌∙◌}
-use mathlib.Core.List.{List}
-use native.Mathlib.Nat.{mul-le-mul}
+-- A part of a list of rows, copied row by row.
+use Prim.Native.Nat.{ℕ, zero, suc, ◌+◌, ◌*◌, ◌≤◌, ◌<◌}
+use mathlib.Core.Path.{◌≡◌, refl, sym, ap, ap₂, ◌∙◌}
+use mathlib.Core.List.{List, ◌++◌, append_assoc}
+use native.Mathlib.Nat.{add-mul}
+use native.Mathlib.Numerals.{add-one}
 use native.Mathlib.Omega.{arith}
-use borrow.Author.Count.{below_more}
-use lib.ListN.{length, get_or, set}
-use lib.Seq.{ext_get_or, get_or-set_same, get_or-set_other}
-use Rattle.picture.specs.Plane.{Part, at, crop}
+use borrow.Rule.Slice.PartMut.{put_mid}
+use lib.ListN.{length, take, drop, length-take, length-drop}
+use Rattle.std.proofs.lemmas.List.{append-nil, take_all}
+use Rattle.std.proofs.lemmas.Slice.{take-put_mid}
+use Rattle.picture.specs.Plane.{Part, rect, crop}
 use Rattle.picture.proofs.Index.{row_step}
-use Rattle.tiles_apart.proofs.Parts.{Inside, Split, split, at_split, crop_length, crop_at, index}
-use Rattle.tile_parts.specs.Parts.{Room, SampleOf, place_of}
+use Rattle.tile_parts.specs.Parts.{Room, first_rows}
 
--- the first k samples are copied
-abbrev pub Copied : List ℕ → ℕ → Part → ℕ → List ℕ → Type 0
-Copied from stride part k to = (n : ℕ) → n < k → get_or to n 0 ≡ get_or from (place_of part stride n) 0
+-- ---- where row y of a part lies: in a list of the part's own size, and in the list that the part lies in
 
--- the list is small
-pub room_small : {part : Part} {stride : ℕ} {list : List ℕ} → Room part stride list → length list ≤ 4294967296
-room_small r = let m = mul-le-mul r.wide r.high in omega (arith, r.long)
+pub own_row : (part : Part) {n y : ℕ} → n ≡ part.width * part.height → y < part.height
+    → y * part.width + part.width ≤ n
+own_row part long below = omega (arith, long, row_step part.width below)
 
--- sample k of a part: its row and its column, and that its place fits
-pub record Placed (part : Part) (stride k : ℕ) : Type 0 where
-  pub some : 0 < part.width
-  pub row : part.y + k / part.width < 65536
-  pub column : part.x + k % part.width < 65536
-  pub start : (part.y + k / part.width) * stride ≤ 4294967296
+module _ {A : Type 0} {part : Part} {stride : ℕ} {list : List A} (room : Room part stride list) where
+  pub out_row : {y : ℕ} → y < part.height → (part.y + y) * stride + part.x + part.width ≤ length list
+  out_row {y} below =
+      omega (
+        arith,
+        room.long,
+        room.columns,
+        row_step stride {r = part.y + y} {q = room.rows} (omega (arith, room.down)),
+      )
 
-pub placed : {part : Part} {stride k : ℕ} → SampleOf part stride k → Placed part stride k
-placed {part} {stride} {k} s =
-    let d : Split part.width part.height k = split part.width part.height k s.inside in
-    let row : part.y + k / part.width < 65536 = omega (arith, d.row, s.high) in
-    let few : part.y + k / part.width ≤ 65536 = omega arith in
-    record {
-      some = omega (arith, d.column);
-      row = row;
-      column = omega (arith, d.column, s.columns, s.wide);
-      start = mul-le-mul few s.wide;
-    }
+-- ---- the rows that are copied
 
-module _ {part : Part} {stride : ℕ} {list : List ℕ} (r : Room part stride list) where
-  pub sample_of_lem : (k : ℕ) → k < part.width * part.height → SampleOf part stride k
-  sample_of_lem k h = record { inside = h; columns = r.columns; wide = r.wide; high = omega (arith, r.down, r.high) }
+module _ {A : Type 0} (from : List A) (stride : ℕ) (part : Part) where
+  -- where row y starts in the list that the part lies in
+  abbrev pub row_start : ℕ → ℕ
+  row_start y = (part.y + y) * stride + part.x
 
-  pub place_in : {k : ℕ} → SampleOf part stride k → place_of part stride k < length list
-  place_in {k} s =
-      let d : Split part.width part.height k = split part.width part.height k s.inside in
-      let e = row_step stride {r = part.y + k / part.width} {q = r.rows} (omega (arith, d.row, r.down)) in
-      omega (arith, e, r.long, d.column, r.columns)
+  pub rows_none : (to : List A) → take (0 * part.width) to ≡ first_rows from stride part 0
+  unfolding first_rows
+  rows_none to = let none : 0 * part.width ≡ 0 = omega arith in ap (λ (k : ℕ). take k to) none
 
-  inside : Inside part stride r.rows
-  inside = record { columns = r.columns; rows = r.down }
+  -- one more row, of n samples, written over k that stand behind those that are copied
+  pub rows_more : (to row : List A) (y n k : ℕ) → n ≡ part.width → row ≡ take n (drop (row_start y) from)
+      → row_start y + part.width ≤ length from → y * part.width ≤ length to
+      → take (y * part.width) to ≡ first_rows from stride part y
+      → take ((y + 1) * part.width) (put_mid (y * part.width) k to row) ≡ first_rows from stride part (y + 1)
+  unfolding first_rows
+  rows_more to row y n k wide is inside placed copied =
+      let row_is : row ≡ take part.width (drop (row_start y) from) =
+      is ∙ ap (λ (n : ℕ). take n (drop (row_start y) from)) wide in
+      let long : length row ≡ part.width = rw row_is (simp (length-take, length-drop) (omega arith)) in
+      take-put_mid (y * part.width) k to row ((y + 1) * part.width) (omega (arith, add-mul y 1 part.width)) placed
+      ∙ ap₂ ◌++◌ copied row_is
+      ∙ ap (first_rows from stride part) (sym (add-one y))
 
-  pub copied_all : (to : List ℕ) (k : ℕ) → length to ≡ part.width * part.height → length to ≤ k
-      → Copied list stride part k to → to ≡ crop list stride part
-  unfolding at
-  copied_all to k long h copied =
-      let cropped : length (crop list stride part) ≡ part.width * part.height =
-      crop_length list stride r.rows part r.long inside in
-      ext_get_or 0 to (crop list stride part) (long ∙ sym cropped)
-      (λ n hn.
-      let d : Split part.width part.height n =
-      split part.width part.height n (omega (arith, hn, long)) in
-      copied n (omega (arith, hn, h))
-      ∙ index list (omega arith)
-      ∙ sym
-      (crop_at list stride r.rows part r.long inside (n % part.width) (n / part.width) d.column d.row)
-      ∙ sym (at_split (crop list stride part) part.width part.height n d))
+  pub rows_all : (to : List A) (y : ℕ) → length to ≡ part.width * part.height → y ≡ part.height
+      → take (y * part.width) to ≡ first_rows from stride part y → to ≡ first_rows from stride part part.height
+  rows_all to y long end copied =
+      let all : length to ≤ y * part.width = omega (arith, ap (λ (k : ℕ). k * part.width) end) in
+      sym (take_all _ to all) ∙ copied ∙ ap (first_rows from stride part) end
 
--- one more sample, from the place that the code computed
-pub copied_more : (from : List ℕ) (stride : ℕ) (part : Part) (to : List ℕ) (k : ℕ) {place : ℕ}
-    → place ≡ place_of part stride k → k < length to → Copied from stride part k to
-    → Copied from stride part (k + 1) (set to k (get_or from place 0))
-copied_more from stride part to k e h copied =
-    below_more _ k (λ n hn. get_or-set_other to k n _ 0 (λ e. omega arith) ∙ copied n hn)
-    (get_or-set_same to k _ 0 h ∙ index from e)
+-- ---- of a list of numbers they are the definition's part
+
+rect_more : (list : List ℕ) (stride start width n : ℕ)
+    → rect list stride start width (suc n)
+    ≡ rect list stride start width n ++ take width (drop (start + n * stride) list)
+unfolding rect
+rect_more list stride start width zero =
+    append-nil _ ∙ ap (λ (k : ℕ). take width (drop k list)) (omega arith)
+rect_more list stride start width (suc n) =
+    let later : start + stride + n * stride ≡ start + suc n * stride = omega arith in
+    ap (λ (r : List ℕ). take width (drop start list) ++ r) (rect_more list stride (start + stride) width n)
+    ∙ sym
+    (append_assoc (take width (drop start list)) (rect list stride (start + stride) width n)
+    (take width (drop (start + stride + n * stride) list)))
+    ∙ ap (λ (k : ℕ). rect list stride start width (suc n) ++ take width (drop k list)) later
+
+rows_are : (list : List ℕ) (stride : ℕ) (part : Part) (n : ℕ)
+    → first_rows list stride part n ≡ rect list stride (part.y * stride + part.x) part.width n
+unfolding first_rows rect
+rows_are list stride part zero = refl
+rows_are list stride part (suc n) =
+    let place : (part.y + n) * stride + part.x ≡ part.y * stride + part.x + n * stride =
+    omega (arith, add-mul part.y n stride) in
+    ap₂ ◌++◌ (rows_are list stride part n) (ap (λ (k : ℕ). take part.width (drop k list)) place)
+    ∙ sym (rect_more list stride (part.y * stride + part.x) part.width n)
+
+pub crop_is : (list : List ℕ) (stride : ℕ) (part : Part) → first_rows list stride part part.height ≡ crop list stride part
+unfolding crop
+crop_is list stride part = rows_are list stride part part.height

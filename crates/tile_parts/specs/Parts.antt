@@ -1,5 +1,5 @@
 -- Parts of lists of rows, as the code holds them.
-use Rattle.std.specs.Prelude.{ℕ, ◌+◌, ◌*◌, ◌/◌, ◌%◌, ◌≤◌, ◌<◌, ◌≡◌, List, length, get_or}
+use Rattle.std.specs.Prelude.{ℕ, zero, suc, ◌+◌, ◌*◌, ◌≤◌, ◌≡◌, List, [], ◌++◌, length, get_or, take, drop}
 use Rattle.ints.specs.Sum.{sum}
 use Rattle.filter.specs.Count.{differ}
 use Rattle.picture.specs.Plane.{Part}
@@ -26,12 +26,8 @@ bytes_part luma = record {
   height = cell_of luma.height;
 }
 
--- where sample k of a part stands in a list of rows
-abbrev pub place_of : Part → ℕ → ℕ → ℕ
-place_of part stride k = (part.y + k / part.width) * stride + (part.x + k % part.width)
-
 -- a part lies in a list of `rows` rows; the sizes keep an index in 64 bits
-pub record Room (part : Part) (stride : ℕ) (list : List ℕ) : Type 0 where
+pub record Room {A : Type 0} (part : Part) (stride : ℕ) (list : List A) : Type 0 where
   pub rows : ℕ
   pub long : length list ≡ stride * rows
   pub columns : part.width + part.x ≤ stride
@@ -39,18 +35,12 @@ pub record Room (part : Part) (stride : ℕ) (list : List ℕ) : Type 0 where
   pub wide : stride ≤ 65536
   pub high : rows ≤ 65536
 
--- sample k of a part of rows of `stride` samples
-pub record SampleOf (part : Part) (stride k : ℕ) : Type 0 where
-  pub inside : k < part.width * part.height
-  pub columns : part.width + part.x ≤ stride
-  pub wide : stride ≤ 65536
-  pub high : part.height + part.y ≤ 65536
+-- the first n rows of a part, of a list of anything; of a list of numbers all its rows are picture's `crop`
+unfoldable pub first_rows : {A : Type 0} → List A → ℕ → Part → ℕ → List A
+first_rows list stride part zero = []
+first_rows list stride part (suc n) =
+    first_rows list stride part n ++ take part.width (drop ((part.y + n) * stride + part.x) list)
 
--- a row lies in a list
-pub record RowRoom (start count : ℕ) (list : List ℕ) : Type 0 where
-  pub inside : start + count ≤ length list
-  pub small : length list ≤ 4294967296
-
--- the samples of a row that differ
-unfoldable pub differing_row : List ℕ → ℕ → List ℕ → ℕ → ℕ → ℕ
-differing_row cut own out start count = sum count (λ x. differ (get_or cut (own + x) 0) (get_or out (start + x) 0))
+-- the samples in which two rows differ
+unfoldable pub differing_row : List ℕ → List ℕ → ℕ
+differing_row own out = sum (length own) (λ x. differ (get_or own x 0) (get_or out x 0))

@@ -2,24 +2,19 @@
 ghost use Rattle.std.specs.Prelude.{◌≡◌, ◌*◌, ◌^◌, ◌≤◌, length};
 ghost use Rattle.filter.specs.Count.{differing};
 ghost use Rattle.picture.specs.Plane.{at};
-ghost use Rattle.tile_parts.specs.Parts.{part_of, Room, RowRoom, differing_row};
+ghost use Rattle.tile_parts.specs.Parts.{part_of, Room, differing_row};
 
 use crate::Part;
 
-// Of one row: `count` samples of the cut from `own` on, and of the picture from `start` on.
-fn differing_row(cut: &[u16], own: usize, out: &[u16], start: usize, count: usize) -> usize
-    requires { RowRoom own count cut.now × RowRoom start count out.now }
-    ensures { result ≡ differing_row cut.now own out.now start count }
+// Of two rows of one length.
+fn differing_row(cut: &[u16], out: &[u16]) -> usize
+    requires { length out.now ≡ length cut.now }
+    ensures { result ≡ differing_row cut.now out.now }
 {
-    let mut n = 0;
-    let mut x = 0;
-    while x < count {
-        if cut[own + x] != out[start + x] {
-            n += 1;
-        }
-        x += 1;
-    }
-    n
+    cut.iter()
+        .zip(out)
+        .filter(|pair| *pair.0 != *pair.1)
+        .count()
 }
 
 // Of one plane: `cut` has the part's columns and rows, and `out` has rows of `stride` samples in which the part lies.
@@ -31,12 +26,10 @@ pub fn differing_plane(cut: &[u16], out: &[u16], stride: usize, part: Part) -> u
 {
     let count = part.width;
     let mut n = 0;
-    let mut y = 0;
-    while y < part.height {
+    for y in 0..part.height {
         let own = y * count;
         let start = (part.y + y) * stride + part.x;
-        n += differing_row(cut, own, out, start, count);
-        y += 1;
+        n += differing_row(&cut[own..own + count], &out[start..start + count]);
     }
     n
 }

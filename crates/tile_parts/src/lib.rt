@@ -9,7 +9,7 @@ mod parts;
 
 pub use counts::differing_plane;
 pub use cuts::{differing_samples, make_cut};
-pub use parts::{cut_size, luma_part};
+pub use parts::{cut_size, find_luma_part, luma_part};
 
 // A part of a list of rows: its first column and row, its columns and rows.
 #[derive(Clone, Copy)]
@@ -28,7 +28,7 @@ pub struct TileAt {
 }
 
 // The luma columns and rows of a cut.
-#[derive(Clone, Copy)]
+#[derive(Clone, Copy, Default)]
 pub struct CutSize {
     pub width: usize,
     pub height: usize,

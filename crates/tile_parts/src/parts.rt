@@ -1,10 +1,10 @@
 // Where a tile lies: its part of each plane and of the cell records.
-ghost use Rattle.std.specs.Prelude.{◌≡◌, ◌-◌, ◌<◌, ◌≤◌, ◌*◌, ◌^◌, length};
+ghost use Rattle.std.specs.Prelude.{◌≡◌, ◌-◌, ◌<◌, ◌≤◌, ◌*◌, ◌^◌, length, option_map};
 ghost use Rattle.picture.specs.Cut.{tile_part};
 ghost use Rattle.picture.specs.Scale.{Y, cell_of};
 ghost use Rattle.picture.specs.Tile.{tile_first, tile_end};
 ghost use Rattle.tile_parts.specs.Parts.{part_of, chroma_part, bytes_part};
-ghost use Rattle.tile_parts.specs.Tiles.{OnPicture, tiled, cut_size};
+ghost use Rattle.tile_parts.specs.Tiles.{OnPicture, tiled, part_at, cut_size};
 
 use crate::{CutSize, Part, TileAt};
 use picture::{LumaColumn, Settings, cell_bytes, chroma_rows, row_of_cells};
@@ -63,18 +63,24 @@ pub fn luma_part(settings: Settings, columns: &[u16], rows: &[u16], at: TileAt) 
     }
 }
 
+// The same for any tile: `None` where there is no such tile, or the CTB size is above 64.
+pub fn find_luma_part(settings: Settings, columns: &[u16], rows: &[u16], at: TileAt) -> Option<Part>
+    ensures { option_map part_of result ≡ part_at (tiled settings columns.now rows.now) at }
+{
+    if (6 < settings.log2_ctb) | (columns.len() <= at.column) | (rows.len() <= at.row) {
+        return None;
+    }
+    Some(luma_part(settings, columns, rows, at))
+}
+
 // The luma columns and rows of a tile's cut, by which the lists that are lent for it are sized: none where there is no
-// such tile.
+// such tile, since README names it as a function that can not fail.
 pub fn cut_size(settings: Settings, columns: &[u16], rows: &[u16], at: TileAt) -> CutSize
     ensures { result ≡ cut_size (tiled settings columns.now rows.now) at }
 {
-    if (6 < settings.log2_ctb) | (columns.len() <= at.column) | (rows.len() <= at.row) {
-        return CutSize {
-            width: 0,
-            height: 0,
-        };
-    }
-    let luma = luma_part(settings, columns, rows, at);
+    let Some(luma) = find_luma_part(settings, columns, rows, at) else {
+        return CutSize::default();
+    };
     CutSize {
         width: luma.width,
         height: luma.height,

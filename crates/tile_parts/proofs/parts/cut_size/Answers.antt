@@ -1,23 +1,21 @@
--- `cut_size` meets its contract: no such tile, or the sizes of its luma part.
+-- `cut_size` meets its contract: the sizes of the part that may be there.
 -- Assumes nothing.
-use Rattle.picture.specs.Picture.{Picture}
+use mathlib.Core.Path.{sym, ap, ◌∙◌}
+use Rattle.std.specs.Prelude.{Option, option_map}
+use Rattle.tile_parts.specs.declared.Part as Code
+use Rattle.tile_parts.specs.Parts.{part_of}
 use Rattle.tile_parts.specs.Tiles.{tiled}
-use Rattle.tile_parts.proofs.Sizes.{no_cut, on_picture, cut_is}
+use Rattle.tile_parts.proofs.Sizes.{no_size, size_is, size_of}
 use Rattle.tile_parts.proofs.parts.cut_size.Goals as goal
-use Rattle.tile_parts.proofs.parts.cut_size.Goals.{Start}
 
-abbrev picture : Start → Picture
-picture c =
-    tiled c.args.settings c.args.columns.now c.args.rows.now
-
-pub returns-then-settings-columns : goal.returns-then-settings-columns
-returns-then-settings-columns c =
-    no_cut (picture (goal.at.returns-then-settings-columns c).Start) c.args.at c.if-settings-columns.true
-
-pub luma_part-luma-requires : goal.luma_part-luma-requires
-luma_part-luma-requires c =
-    on_picture (picture (goal.at.luma_part-luma-requires c).Start) c.args.at c.if-settings-columns.false
+pub returns-in_default : goal.returns-in_default
+returns-in_default c =
+    let a = c.args in
+    no_size c.default.ensures ∙ ap (λ (o : Option Code.Part). size_of (option_map part_of o)) (sym c.in_default.is)
+    ∙ ap size_of c.find_luma_part.ensures
+    ∙ size_is (tiled a.settings a.columns.now a.rows.now) a.at
 
 pub returns : goal.returns
 returns c =
-    cut_is (picture (goal.at.returns c).Start) c.args.at c.if-settings-columns.false c.luma_part-luma.ensures
+    let a = c.args in
+    ap size_of c.in-Some.ensures ∙ size_is (tiled a.settings a.columns.now a.rows.now) a.at
