@@ -1,5 +1,5 @@
 -- The three planes together, and what the stage leaves on each verdict.
-use Prim.Native.Nat.{ℕ, ◌*◌, ◌<◌}
+use Prim.Native.Nat.{ℕ, ◌*◌}
 use mathlib.Core.Path.{◌≡◌, sym, ap, ◌∙◌}
 use mathlib.Core.Bool.{Bool, cond}
 use mathlib.Core.List.{List}
@@ -9,9 +9,9 @@ use lib.ListN.{length}
 use Rattle.filter.specs.declared.Component as Code
 use Rattle.filter.specs.Finished.{finished_plane, finished, outputs}
 use Rattle.picture.specs.Given.{planes_of}
-use Rattle.ledger.specs.declared.Verdict.{Verdict}
-use Rattle.ledger.specs.declared.Verdict.TheVariants as Cases
-use Rattle.ledger.specs.Numbered.{numbered}
+use Rattle.ledger.specs.declared.Refusal.{Refusal}
+use Rattle.ledger.specs.Numbered.{refused}
+use Rattle.ledger.proofs.Refusals.{refuses}
 use Rattle.picture.specs.Causes.{verdict}
 use Rattle.picture.specs.Ledger.{acceptance}
 use Rattle.picture.specs.Picture.{Picture, Planes, plane_of, plane_width, plane_height}
@@ -64,22 +64,16 @@ absent_plane format w h l G e len =
 
 -- ---- what the stage leaves
 
-pub left_finished : (p : Picture) (o : Planes) (r : Verdict) → numbered r ≡ verdict p o → r ≡ Cases.Accepted
-    → (l : Planes) → l ≡ finished p → l ≡ outputs p o
+pub left_finished : (p : Picture) (o : Planes) → verdict p o ≡ acceptance → (l : Planes) → l ≡ finished p
+    → l ≡ outputs p o
 unfolding outputs
-left_finished p o r e a l is =
-    let zero : (verdict p o).number ≡ 0 = ap (λ v. v.number) (sym e) ∙ ap (λ (v : Verdict). (numbered v).number) a in
-    is ∙ ap (λ (t : Bool). cond t (finished p) o) (sym (eq-eqb _ _ zero))
+left_finished p o accepted l is =
+    is ∙ ap (λ (t : Bool). cond t (finished p) o) (sym (eq-eqb _ _ (ap (λ v. v.number) accepted)))
 
-pub left_as_it_was : (p : Picture) (o : Planes) (r : Verdict) → numbered r ≡ verdict p o → 0 < (numbered r).number
-    → o ≡ outputs p o
+pub left_as_it_was : (p : Picture) (o : Planes) (r : Refusal) → refused r ≡ verdict p o → o ≡ outputs p o
 unfolding outputs
-left_as_it_was p o r e h =
+left_as_it_was p o r e =
+    let h = refuses r in
     let some : (verdict p o).number ≡ 0 → ⊥ =
-    λ z. let n : (numbered r).number ≡ 0 = ap (λ v. v.number) e ∙ z in omega arith in
+    λ z. let n : (refused r).number ≡ 0 = ap (λ v. v.number) e ∙ z in omega arith in
     ap (λ (t : Bool). cond t (finished p) o) (sym (ne_eqb _ _ some))
-
--- an accepting verdict, of any outputs of the right lengths
-pub accepts : (p : Picture) (o : Planes) (r : Verdict) → numbered r ≡ verdict p o → r ≡ Cases.Accepted
-    → verdict p o ≡ acceptance
-accepts p o r e a = sym e ∙ ap numbered a

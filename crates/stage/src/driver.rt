@@ -5,7 +5,7 @@ ghost use Rattle.filter.specs.Finished.{finished, outputs};
 ghost use Rattle.ledger.specs.Numbered.{numbered};
 ghost use Rattle.picture.specs.Accepted.{Accepted};
 ghost use Rattle.picture.specs.Causes.{verdict};
-ghost use Rattle.picture.specs.Lent.{picture_given};
+ghost use Rattle.picture.specs.Lent.{picture_lent};
 
 use crate::components::{
     biased_offset, chroma_component, chroma_frame, luma_component, luma_frame,
@@ -13,78 +13,61 @@ use crate::components::{
 use crate::plane::finish_plane;
 use checks::OutputLengths;
 use ledger::{Verdict, check};
-use picture::Settings;
+use picture::Picture;
 use restore::restoration_of;
 use thresholds::luma_tc_table;
 
 // The planes of an accepted picture.
-fn deblock(
-    settings: Settings,
-    y: &[u16],
-    cb: &[u16],
-    cr: &[u16],
-    cells: &[u8],
-    slices: &[u8],
-    columns: &[u16],
-    rows: &[u16],
-    outy: &mut [u16],
-    outcb: &mut [u16],
-    outcr: &mut [u16],
-)
-    requires { Accepted (picture_given settings y.now cb.now cr.now cells.now slices.now columns.now rows.now)
-        (planes_of outy.old outcb.old outcr.old) }
-    ensures { planes_of outy.new outcb.new outcr.new ≡
-        finished (picture_given settings y.now cb.now cr.now cells.now slices.now columns.now rows.now) }
+fn deblock(picture: &Picture<'_>, outy: &mut [u16], outcb: &mut [u16], outcr: &mut [u16])
+    requires { Accepted (picture_lent picture.now) (planes_of outy.old outcb.old outcr.old) }
+    ensures { planes_of outy.new outcb.new outcr.new ≡ finished (picture_lent picture.now) }
 {
+    let Picture {
+        settings,
+        planes,
+        cells,
+        slices,
+        columns,
+        rows,
+    } = *picture;
     // Laid out once, and lent to every look that the luma plane takes.
     let tcs = luma_tc_table();
     let r = restoration_of(cells, settings.pcm_loop_filter_disabled);
     let k = luma_component(settings);
     let f = luma_frame(settings);
-    finish_plane(outy, y, cells, slices, columns, rows, &tcs, k, f, r);
+    finish_plane(outy, planes.y, cells, slices, columns, rows, &tcs, k, f, r);
     if settings.chroma_format == 0 {
         return;
     }
     let kb = chroma_component(settings, biased_offset(settings.cb_qp_offset));
     let kr = chroma_component(settings, biased_offset(settings.cr_qp_offset));
     let fc = chroma_frame(settings);
-    finish_plane(outcb, cb, cells, slices, columns, rows, &tcs, kb, fc, r);
-    finish_plane(outcr, cr, cells, slices, columns, rows, &tcs, kr, fc, r);
+    finish_plane(
+        outcb, planes.cb, cells, slices, columns, rows, &tcs, kb, fc, r,
+    );
+    finish_plane(
+        outcr, planes.cr, cells, slices, columns, rows, &tcs, kr, fc, r,
+    );
 }
 
 // The stage. Any input at all: the answer is the ledger's, and the output planes hold the finished picture, or what
 // they held before.
 pub fn apply_deblocking(
-    settings: Settings,
-    y: &[u16],
-    cb: &[u16],
-    cr: &[u16],
-    cells: &[u8],
-    slices: &[u8],
-    columns: &[u16],
-    rows: &[u16],
+    picture: &Picture<'_>,
     outy: &mut [u16],
     outcb: &mut [u16],
     outcr: &mut [u16],
 ) -> Verdict
-    ensures verdict { numbered result ≡
-        verdict (picture_given settings y.now cb.now cr.now cells.now slices.now columns.now rows.now)
-        (planes_of outy.old outcb.old outcr.old) }
+    ensures verdict { numbered result ≡ verdict (picture_lent picture.now) (planes_of outy.old outcb.old outcr.old) }
     ensures planes { planes_of outy.new outcb.new outcr.new ≡
-        outputs (picture_given settings y.now cb.now cr.now cells.now slices.now columns.now rows.now)
-        (planes_of outy.old outcb.old outcr.old) }
+        outputs (picture_lent picture.now) (planes_of outy.old outcb.old outcr.old) }
 {
     let lent = OutputLengths::Planes {
         y: outy.len(),
         cb: outcb.len(),
         cr: outcr.len(),
     };
-    let answer = check(settings, y, cb, cr, cells, slices, columns, rows, lent);
-    let Verdict::Accepted = answer else {
-        return answer;
-    };
-    deblock(
-        settings, y, cb, cr, cells, slices, columns, rows, outy, outcb, outcr,
-    );
-    answer
+    check(picture, Some(lent))?;
+    deblock(picture, outy, outcb, outcr);
+    Ok(())
 }

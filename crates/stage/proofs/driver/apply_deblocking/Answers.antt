@@ -1,61 +1,59 @@
 -- `apply_deblocking` meets its contract: the verdict is the ledger's; a refusal leaves the outputs, and an accepted
 -- picture is finished.
 -- Assumes nothing.
-use mathlib.Core.Path.{◌≡◌}
-use Rattle.ledger.specs.Numbered.{numbered}
-use Rattle.ledger.proofs.Refusals.{refuses}
+use mathlib.Core.Path.{◌≡◌, sym, ap, ◌∙◌}
+use Rattle.std.proofs.lemmas.Result.{err_from_is_err_and}
+use Rattle.ledger.specs.Numbered.{numbered, refused}
 use Rattle.picture.specs.Causes.{verdict}
 use Rattle.picture.specs.Given.{planes_of}
-use Rattle.picture.specs.Lent.{picture_given}
+use Rattle.picture.specs.Ledger.{acceptance}
+use Rattle.picture.specs.Lent.{picture_lent}
 use Rattle.picture.specs.Picture.{Picture, Planes}
 use Rattle.picture.proofs.Accepted.{accepted_by}
-use Rattle.stage.proofs.Outcome.{left_finished, left_as_it_was, accepts}
+use Rattle.stage.proofs.Outcome.{left_finished, left_as_it_was}
 use Rattle.stage.proofs.driver.apply_deblocking.Goals as goal
-use Rattle.stage.proofs.driver.apply_deblocking.Goals.{Start, After-check-answer}
+use Rattle.stage.proofs.driver.apply_deblocking.Goals.{Start, After-check, In_ok-check}
 
 -- the picture and the outputs at the call
 abbrev picture : Start → Picture
-picture c =
-    let a = c.args in
-    picture_given a.settings a.y.now a.cb.now a.cr.now a.cells.now a.slices.now a.columns.now a.rows.now
+picture c = picture_lent c.args.picture.now
 
 abbrev lent : Start → Planes
-lent c =
-    let a = c.args in
-    planes_of a.outy.now a.outcb.now a.outcr.now
+lent c = planes_of c.args.outy.now c.args.outcb.now c.args.outcr.now
 
 -- the answer is the ledger's
-answered : (c : After-check-answer) → let a = c.args in
-    let picture : Picture =
-    picture_given a.settings a.y.now a.cb.now a.cr.now a.cells.now a.slices.now a.columns.now a.rows.now in
-    numbered c.check-answer.result ≡ verdict picture (planes_of a.outy.now a.outcb.now a.outcr.now)
+answered : (c : After-check) → numbered c.check.result
+    ≡ verdict (picture_lent c.args.picture.now) (planes_of c.args.outy.now c.args.outcb.now c.args.outcr.now)
 unfolding verdict
-answered c =
-    c.check-answer.ensures
+answered c = c.check.ensures
 
-pub returns-in_default-clause-verdict : goal.returns-in_default-clause-verdict
-returns-in_default-clause-verdict c =
-    let answer = c.check-answer.result in (answered (goal.at.returns-in_default-clause-verdict c).After-check-answer)
+accepted : (c : In_ok-check)
+    → verdict (picture_lent c.args.picture.now) (planes_of c.args.outy.now c.args.outcb.now c.args.outcr.now) ≡ acceptance
+unfolding verdict
+accepted c = sym c.check.ensures ∙ ap numbered c.in_ok-check.was
 
-pub returns-in_default-clause-planes : goal.returns-in_default-clause-planes
-returns-in_default-clause-planes c =
-    let answer = c.check-answer.result in left_as_it_was (picture (goal.at.returns-in_default-clause-planes c).Start)
-    (lent (goal.at.returns-in_default-clause-planes c).Start) answer
-    (answered (goal.at.returns-in_default-clause-planes c).After-check-answer)
-    (refuses answer c.in_default.not-Accepted)
+pub returns-in_err-check-clause-verdict : goal.returns-in_err-check-clause-verdict
+returns-in_err-check-clause-verdict c =
+    let given = err_from_is_err_and c.from_residual.result c.from_residual.ensures.1 in
+    ap numbered given.1
+    ∙ ap refused given.2
+    ∙ sym (ap numbered c.in_err-check.was)
+    ∙ answered (goal.at.returns-in_err-check-clause-verdict c).After-check
+
+pub returns-in_err-check-clause-planes : goal.returns-in_err-check-clause-planes
+returns-in_err-check-clause-planes c =
+    let at = goal.at.returns-in_err-check-clause-planes c in
+    left_as_it_was (picture at.Start) (lent at.Start) _ (sym (ap numbered c.in_err-check.was) ∙ answered at.After-check)
 
 pub deblock-requires : goal.deblock-requires
 deblock-requires c =
-    accepted_by (picture (goal.at.deblock-requires c).Start) (lent (goal.at.deblock-requires c).Start)
-    (accepts (picture (goal.at.deblock-requires c).Start) (lent (goal.at.deblock-requires c).Start) _
-    (answered (goal.at.deblock-requires c).After-check-answer) c.in-Accepted.is)
+    let at = goal.at.deblock-requires c in
+    accepted_by (picture at.Start) (lent at.Start) (accepted at.In_ok-check)
 
 pub returns-clause-verdict : goal.returns-clause-verdict
-returns-clause-verdict c =
-    (answered (goal.at.returns-clause-verdict c).After-check-answer)
+returns-clause-verdict c = sym (accepted (goal.at.returns-clause-verdict c).In_ok-check)
 
 pub returns-clause-planes : goal.returns-clause-planes
 returns-clause-planes c =
-    left_finished (picture (goal.at.returns-clause-planes c).Start) (lent (goal.at.returns-clause-planes c).Start) _
-    (answered (goal.at.returns-clause-planes c).After-check-answer) c.in-Accepted.is _
-    c.deblock.ensures
+    let at = goal.at.returns-clause-planes c in
+    left_finished (picture at.Start) (lent at.Start) (accepted at.In_ok-check) _ c.deblock.ensures
