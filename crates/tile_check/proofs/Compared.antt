@@ -1,13 +1,13 @@
 -- A tile of an accepted picture: what the code needs of it, and that what the code compares is the tile and its cut.
 use Prim.Native.Nat.{ℕ, ◌*◌, ◌≤◌}
-use mathlib.Core.Path.{◌≡◌, sym, ap, ◌∙◌}
-use mathlib.Core.Bool.{Bool, true, false}
+use mathlib.Core.Path.{◌≡◌, refl, sym, ap, ◌∙◌}
+use mathlib.Core.Bool.{Bool, true, false, cond}
 use mathlib.Core.List.{List}
 use native.Mathlib.Omega.{arith}
-use borrow.Author.Tests.{leb-false}
+use borrow.Author.Tests.{leb-false, le-ltb}
 use lib.ListN.{length}
+use Rattle.std.specs.Prelude.{Option, Some, None}
 use Rattle.picture.proofs.Scale.{from_luma_most}
-use Rattle.checks.proofs.Tests.{any_of_lem, or_of}
 use Rattle.filter.specs.Count.{differences}
 use Rattle.filter.specs.Finished.{outputs}
 use Rattle.picture.specs.declared.Settings as Code
@@ -22,7 +22,7 @@ use Rattle.picture.proofs.Ledger.{none_out, not_eq}
 use Rattle.tile_parts.specs.declared.TileAt.{TileAt}
 use Rattle.tile_parts.specs.Cuts.{CutReady, Rooms, Sized}
 use Rattle.tile_parts.specs.Parts.{Room, bytes_part}
-use Rattle.tile_parts.specs.Tiles.{OnPicture, no_tile_at, tiled}
+use Rattle.tile_parts.specs.Tiles.{no_tile_at, part_at, tiled}
 use Rattle.tiles_apart.proofs.Parts.{Inside}
 use Rattle.tiles_apart.proofs.Tile.{cells_inside, cells_rows, columns_span, part_inside, rows_span}
 use Rattle.tile_check.specs.Alone.{CompareReady, alone, differing_alone, filtered_alone}
@@ -73,26 +73,41 @@ module _ (p : Picture) (at : TileAt) where
   abbrev Answered : Outcome → Scratch → Scratch → Planes → Type 0
   Answered o l left out = (o ≡ compared p at l out) × (left ≡ written p at l)
 
-  -- ---- whether the tile is there, as the code tests it
+  -- ---- whether the tile is there
 
-  pub no_tile_lem : or_of (no_tile_at p at) ≡ true → (l : Scratch) (out : Planes) → Answered no_tile l l out
+  -- the tile's part, where it is there
+  abbrev part_there : Option Part
+  part_there = part_at (tiled (code_of p) p.columns p.rows) at
+
+  part_is : {lent : Planes} → Accepted p lent → part_there ≡ cond (any_of (no_tile_at p at)) None (Some luma)
+  unfolding part_at
+  part_is ok = rw (le-ltb 6 p.settings.log2_ctb ok.picture.settings.ctb_high)
+
+  none_is : (t : Bool) → None ≡ cond t None (Some luma) → t ≡ true
+  none_is true e = refl
+  none_is false e = absurd (cc)
+
+  some_is : (t : Bool) {part : Part} → Some part ≡ cond t None (Some luma) → (t ≡ false) × (part ≡ luma)
+  some_is true e = absurd (cc)
+  some_is false e = (refl, cc)
+
+  pub no_tile_lem : {lent : Planes} → Accepted p lent → None ≡ part_there → (l : Scratch) (out : Planes)
+      → Answered no_tile l l out
   unfolding compared written
-  no_tile_lem e l out = let none = sym (any_of_lem (no_tile_at p at)) ∙ e in (rw none, rw none)
+  no_tile_lem ok e l out =
+      let none : any_of (no_tile_at p at) ≡ true = none_is _ (e ∙ part_is ok) in (rw none, rw none)
 
-  module _ {lent : Planes} (ok : Accepted p lent) (there : or_of (no_tile_at p at) ≡ false) where
+  module _ {lent : Planes} (ok : Accepted p lent) {part : Part} (there : Some part ≡ part_there) where
     some : any_of (no_tile_at p at) ≡ false
-    some = sym (any_of_lem (no_tile_at p at)) ∙ there
+    some = (some_is _ (there ∙ part_is ok)).0
+
+    e : part ≡ luma
+    e = (some_is _ (there ∙ part_is ok)).1
 
     tile : IsTile p at.column at.row
     tile =
         let (column, (row, _)) = none_out (no_tile_at p at) some in
         record { column = leb-false _ _ column; row = leb-false _ _ row }
-
-    pub on_picture : OnPicture (tiled (code_of p) p.columns p.rows) at
-    on_picture = record {
-      tile = record { column = tile.column; row = tile.row };
-      ctb = ok.picture.settings.ctb_high;
-    }
 
     -- ---- where the tile lies
 
@@ -165,48 +180,47 @@ module _ (p : Picture) (at : TileAt) where
 
     -- ---- by the part and the cut's settings that the code worked out
 
-    module _ {part : Part} (e : part ≡ luma) where
-      pub part_small : (part.width ≤ 8192) × (part.height ≤ 8192)
-      part_small = rw e luma_small
+    pub part_small : (part.width ≤ 8192) × (part.height ≤ 8192)
+    part_small = rw e luma_small
 
-      module _ {own : Code.Settings} (eo : own ≡ alone (code_of p) part) where
-        pub own_small : (own.width ≤ 8192) × (own.height ≤ 8192)
-        own_small = rw eo part_small
+    module _ {own : Code.Settings} (eo : own ≡ alone (code_of p) part) where
+      pub own_small : (own.width ≤ 8192) × (own.height ≤ 8192)
+      own_small = rw eo part_small
 
-        module _ (l : Scratch) {bad : Bool} (tested : bad ≡ any_of (bad_scratch (bare own) l)) where
-          bad_is : bad ≡ any_of (bad_scratch (cut_at p at) l)
-          unfolding cut
-          bad_is =
-              tested
-              ∙ ap (λ (o : Code.Settings). any_of (bad_scratch (bare o) l)) (eo ∙ ap (alone (code_of p)) e)
+      module _ (l : Scratch) {bad : Bool} (tested : bad ≡ any_of (bad_scratch (bare own) l)) where
+        bad_is : bad ≡ any_of (bad_scratch (cut_at p at) l)
+        unfolding cut
+        bad_is =
+            tested
+            ∙ ap (λ (o : Code.Settings). any_of (bad_scratch (bare o) l)) (eo ∙ ap (alone (code_of p)) e)
 
-          pub compare_ready : bad ≡ false → CompareReady (code_of p) part p.originals p.cells lent l
-          compare_ready good = rw e (ready l (scratch_out (cut_at p at) l (sym bad_is ∙ good)))
+        pub compare_ready : bad ≡ false → CompareReady (code_of p) part p.originals p.cells lent l
+        compare_ready good = rw e (ready l (scratch_out (cut_at p at) l (sym bad_is ∙ good)))
 
-          pub bad_lengths_lem : bad ≡ true → (out : Planes) → Answered lengths l l out
-          unfolding compared written
-          bad_lengths_lem short out = let long = sym bad_is ∙ short in (rw (some, long), rw (some, long))
+        pub bad_lengths_lem : bad ≡ true → (out : Planes) → Answered lengths l l out
+        unfolding compared written
+        bad_lengths_lem short out = let long = sym bad_is ∙ short in (rw (some, long), rw (some, long))
 
-          count_part : (out : Planes)
-              → differing_alone (code_of p) part p.originals p.cells p.slices l.own out
-              ≡ differences p at.column at.row (outputs (cut_at p at) l.own) out
-          unfolding cut differences
-          count_part out =
-              ap
-              (λ (q : Part). differing_alone (code_of p) q p.originals p.cells p.slices l.own out) e
+        count_part : (out : Planes)
+            → differing_alone (code_of p) part p.originals p.cells p.slices l.own out
+            ≡ differences p at.column at.row (outputs (cut_at p at) l.own) out
+        unfolding cut differences
+        count_part out =
+            ap
+            (λ (q : Part). differing_alone (code_of p) q p.originals p.cells p.slices l.own out) e
 
-          filtered_part : filtered_alone (code_of p) part p.originals p.cells p.slices l.own
-              ≡ scratch (cut_at p at).originals (cut_at p at).cells (outputs (cut_at p at) l.own)
-          unfolding cut
-          filtered_part =
-              ap (λ (q : Part). filtered_alone (code_of p) q p.originals p.cells p.slices l.own) e
+        filtered_part : filtered_alone (code_of p) part p.originals p.cells p.slices l.own
+            ≡ scratch (cut_at p at).originals (cut_at p at).cells (outputs (cut_at p at) l.own)
+        unfolding cut
+        filtered_part =
+            ap (λ (q : Part). filtered_alone (code_of p) q p.originals p.cells p.slices l.own) e
 
-          pub count_is : bad ≡ false → (out : Planes) {r : ℕ}
-              → r ≡ differing_alone (code_of p) part p.originals p.cells p.slices l.own out
-              → {left : Scratch}
-              → left ≡ filtered_alone (code_of p) part p.originals p.cells p.slices l.own
-              → Answered (differing r) l left out
-          unfolding compared written
-          count_is good out er el =
-              let long = sym bad_is ∙ good in
-              (rw (some, long) (ap differing (er ∙ count_part out)), rw (some, long) (el ∙ filtered_part))
+        pub count_is : bad ≡ false → (out : Planes) {r : ℕ}
+            → r ≡ differing_alone (code_of p) part p.originals p.cells p.slices l.own out
+            → {left : Scratch}
+            → left ≡ filtered_alone (code_of p) part p.originals p.cells p.slices l.own
+            → Answered (differing r) l left out
+        unfolding compared written
+        count_is good out er el =
+            let long = sym bad_is ∙ good in
+            (rw (some, long) (ap differing (er ∙ count_part out)), rw (some, long) (el ∙ filtered_part))

@@ -1,3 +1,2 @@
-pub mod Filtered
 pub mod Compared
 pub mod Outcomes

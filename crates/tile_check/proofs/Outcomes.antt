@@ -1,15 +1,14 @@
 -- The answer by the picture's verdict; and by term 3 no sample differs.
-use Prim.Native.Nat.{ℕ, ◌<◌}
 use mathlib.Core.Path.{◌≡◌, sym, ap, ◌∙◌}
-use mathlib.Core.Bool.{Bool, true, false}
+use mathlib.Core.Bool.{true, false}
 use native.Mathlib.Omega.{arith}
 use borrow.Author.Tests.{eq-eqb, lt-leb, ne_eqb}
 use lib.Dec.{eqb}
 use lib.ListN.{length}
 use Rattle.filter.specs.Finished.{outputs}
-use Rattle.ledger.specs.declared.Verdict as Answer
-use Rattle.ledger.specs.declared.Verdict.TheVariants as Cases
-use Rattle.ledger.specs.Numbered.{numbered}
+use Rattle.ledger.specs.declared.Refusal.{Refusal}
+use Rattle.ledger.specs.Numbered as Numbered
+use Rattle.ledger.proofs.Refusals.{refuses}
 use Rattle.picture.specs.Accepted.{Accepted}
 use Rattle.picture.specs.Causes.{verdict}
 use Rattle.picture.specs.Ledger.{acceptance, any_of}
@@ -44,19 +43,16 @@ scratch_in q s ok =
     let own-cr = ok.own Cr in
     none_in (bad_scratch q s) (search to_test depth 1)
 
-accepts : (p : Picture) (lent : Planes) {v : Answer.Verdict} → numbered v ≡ verdict p lent → v ≡ Cases.Accepted
-    → verdict p lent ≡ acceptance
-accepts p lent told is = sym told ∙ ap numbered is
-
 module _ (p : Picture) (lent : Planes) (at : TileAt) (l : Scratch) where
   -- ---- a refusal
 
-  module _ (v : Answer.Verdict) (told : numbered v ≡ verdict p lent) (some : 0 < (numbered v).number) where
+  module _ (r : Refusal) (told : Numbered.refused r ≡ verdict p lent) where
     refusing : eqb (verdict p lent).number 0 ≡ false
     refusing =
-        ne_eqb _ _ (λ z. let n : (numbered v).number ≡ 0 = ap (λ v. v.number) told ∙ z in omega arith)
+        let some = refuses r in
+        ne_eqb _ _ (λ z. let n : (Numbered.refused r).number ≡ 0 = ap (λ v. v.number) told ∙ z in omega arith)
 
-    pub refusal_is : refused (numbered v) ≡ outcome p lent at l
+    pub refusal_is : refused (Numbered.refused r) ≡ outcome p lent at l
     unfolding outcome
     refusal_is = rw refusing (ap refused told)
 
@@ -64,16 +60,11 @@ module _ (p : Picture) (lent : Planes) (at : TileAt) (l : Scratch) where
     unfolding after
     refusal_leaves = rw refusing
 
-    pub no_refusal : Checkable p lent at l → ⊥
-    no_refusal ok =
-        let n : (numbered v).number ≡ 0 = ap (λ v. v.number) (told ∙ ok.tile.accepted) in
-        omega arith
-
   -- ---- an accepted picture
 
-  module _ {v : Answer.Verdict} (told : numbered v ≡ verdict p lent) (is : v ≡ Cases.Accepted) where
+  module _ (told : acceptance ≡ verdict p lent) where
     accepting : eqb (verdict p lent).number 0 ≡ true
-    accepting = eq-eqb _ _ (ap (λ v. v.number) (accepts p lent told is))
+    accepting = eq-eqb _ _ (ap (λ v. v.number) (sym told))
 
     pub outcome_is : {o : Outcome} {out : Planes} → out ≡ outputs p lent → o ≡ compared p at l out
         → o ≡ outcome p lent at l
@@ -99,12 +90,12 @@ module _ (p : Picture) (lent : Planes) (at : TileAt) (l : Scratch) where
       (ap differing apart.none_differs)
 
 -- an accepted picture, with outputs that kept their lengths
-pub accepted_still : (p : Picture) (lent : Planes) {v : Answer.Verdict} → numbered v ≡ verdict p lent
-    → v ≡ Cases.Accepted → {out : Planes} → length out.y ≡ length lent.y
+pub accepted_still : (p : Picture) (lent : Planes) → acceptance ≡ verdict p lent
+    → {out : Planes} → length out.y ≡ length lent.y
     → length out.cb ≡ length lent.cb → length out.cr ≡ length lent.cr
     → Accepted p out
-accepted_still p lent told is ey eb er =
-    let ok = accepted_by p lent (accepts p lent told is) in
+accepted_still p lent told ey eb er =
+    let ok = accepted_by p lent (sym told) in
     record {
       picture = ok.picture;
       strengths = ok.strengths;

@@ -1,9 +1,9 @@
 -- What the check of a tile answers, and when.
-use Rattle.std.specs.Prelude.{ℕ, ◌*◌, ◌≡◌, Bool, cond, List, [], ◌∷◌, ◌++◌, eqb, length}
+use Rattle.std.specs.Prelude.{ℕ, ◌*◌, ◌≡◌, Bool, cond, List, [], ◌∷◌, ◌++◌, Result, Ok, Err, eqb, length}
 use Rattle.checks.specs.Lengths.{plane_tests}
 use Rattle.filter.specs.Count.{differences}
 use Rattle.filter.specs.Finished.{outputs}
-use Rattle.ledger.specs.Numbered.{numbered}
+use Rattle.ledger.specs.Numbered as Numbered
 use Rattle.picture.specs.Accepted.{PlanesOk}
 use Rattle.picture.specs.Causes.{bad_cells, verdict}
 use Rattle.picture.specs.Cell.{cell_count}
@@ -11,8 +11,8 @@ use Rattle.picture.specs.Cut.{cut}
 use Rattle.picture.specs.Ledger as Ledger
 use Rattle.picture.specs.Ledger.{any_of}
 use Rattle.picture.specs.Picture.{Picture, Planes}
-use Rattle.tile_check.specs.declared.TileAnswer.{TileAnswer}
-use Rattle.tile_check.specs.declared.TileAnswer.TheVariants.{Refused, NoTile, Lengths, Differing}
+use Rattle.tile_check.specs.declared.TileRefusal.{TileRefusal}
+use Rattle.tile_check.specs.declared.TileRefusal.TheVariants as Case
 use Rattle.tile_parts.specs.declared.TileAt.{TileAt}
 use Rattle.tile_parts.specs.Tiles.{no_tile_at}
 use Rattle.tiles_apart.specs.Term3.{AcceptedTile}
@@ -22,12 +22,15 @@ pub data Outcome : Type 0 where
   no_tile lengths : Outcome
   differing : ℕ → Outcome
 
--- the case that an answer stands for; a refusal is its number and its place
-abbrev pub told : TileAnswer → Outcome
-told (Refused v) = refused (numbered v)
-told NoTile = no_tile
-told Lengths = lengths
-told (Differing n) = differing n
+-- the case that an answer stands for; a picture's refusal is its number and its place
+abbrev pub told_refusal : TileRefusal → Outcome
+told_refusal (Case.Picture r) = refused (Numbered.refused r)
+told_refusal Case.NoTile = no_tile
+told_refusal Case.Lengths = lengths
+
+abbrev pub told : Result ℕ TileRefusal → Outcome
+told (Ok n) = differing n
+told (Err e) = told_refusal e
 
 -- the lists lent for the cut: its three original planes, its cells and its three output planes
 pub record Scratch : Type 0 where

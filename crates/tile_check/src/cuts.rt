@@ -1,12 +1,13 @@
 // The cut: made, filtered as a picture alone, and compared.
 ghost use Rattle.picture.specs.Given.{planes_of};
+ghost use Rattle.picture.specs.Lent.{planes_lent};
 ghost use Rattle.std.specs.Prelude.{◌≡◌, ◌≤◌};
 ghost use Rattle.filter.specs.Finished.{outputs};
 ghost use Rattle.tile_parts.specs.Parts.{part_of};
 ghost use Rattle.tile_check.specs.Alone.{CompareReady, alone, differing_alone, filtered_alone, one_tile};
 ghost use Rattle.tile_check.specs.Lent.{scratch_of};
 
-use picture::Settings;
+use picture::{Picture, Planes, Settings};
 use stage::apply_deblocking;
 use tile_parts::{Part, differing_samples, make_cut};
 
@@ -25,9 +26,7 @@ pub(crate) fn alone(settings: Settings, luma: Part) -> Settings
 // picture is accepted (term 3), and `outputs` says what is left in either case.
 fn filter_cut(
     settings: Settings,
-    y: &[u16],
-    cb: &[u16],
-    cr: &[u16],
+    planes: &Planes<'_>,
     cells: &[u8],
     slices: &[u8],
     outy: &mut [u16],
@@ -35,27 +34,26 @@ fn filter_cut(
     outcr: &mut [u16],
 )
     ensures { planes_of outy.new outcb.new outcr.new ≡
-        outputs (one_tile settings (planes_of y.now cb.now cr.now) cells.now slices.now)
+        outputs (one_tile settings (planes_lent planes.now) cells.now slices.now)
         (planes_of outy.old outcb.old outcr.old) }
 {
     let start = [0u16; 1];
-    apply_deblocking(
-        settings, y, cb, cr, cells, slices, &start, &start, outy, outcb, outcr,
-    );
+    let cut = Picture {
+        settings,
+        planes: *planes,
+        cells,
+        slices,
+        columns: &start,
+        rows: &start,
+    };
+    let _ = apply_deblocking(&cut, outy, outcb, outcr);
 }
 
 // The cut made, filtered and compared; out are the picture's outputs.
 pub(crate) fn compare_cut(
-    settings: Settings,
+    picture: &Picture<'_>,
     luma: Part,
-    y: &[u16],
-    cb: &[u16],
-    cr: &[u16],
-    cells: &[u8],
-    slices: &[u8],
-    outy: &[u16],
-    outcb: &[u16],
-    outcr: &[u16],
+    out: &Planes<'_>,
     cuty: &mut [u16],
     cutcb: &mut [u16],
     cutcr: &mut [u16],
@@ -64,46 +62,42 @@ pub(crate) fn compare_cut(
     owncb: &mut [u16],
     owncr: &mut [u16],
 ) -> usize
-    requires { CompareReady settings (part_of luma) (planes_of y.now cb.now cr.now) cells.now
-        (planes_of outy.now outcb.now outcr.now)
+    requires { CompareReady picture.now.settings (part_of luma) (planes_lent picture.now.planes) picture.now.cells.now
+        (planes_lent out.now)
         (scratch_of cuty.old cutcb.old cutcr.old cutcells.old owny.old owncb.old owncr.old) }
-    ensures count { result ≡ differing_alone settings (part_of luma) (planes_of y.now cb.now cr.now) cells.now
-        slices.now (planes_of owny.old owncb.old owncr.old) (planes_of outy.now outcb.now outcr.now) }
+    ensures count { result ≡ differing_alone picture.now.settings (part_of luma) (planes_lent picture.now.planes)
+        picture.now.cells.now picture.now.slices.now (planes_of owny.old owncb.old owncr.old) (planes_lent out.now) }
     ensures scratch { scratch_of cuty.new cutcb.new cutcr.new cutcells.new owny.new owncb.new owncr.new
-        ≡ filtered_alone settings (part_of luma)
-        (planes_of y.now cb.now cr.now) cells.now slices.now (planes_of owny.old owncb.old owncr.old) }
+        ≡ filtered_alone picture.now.settings (part_of luma) (planes_lent picture.now.planes) picture.now.cells.now
+        picture.now.slices.now (planes_of owny.old owncb.old owncr.old) }
 {
     make_cut(
-        settings,
+        picture,
         luma,
-        y,
-        cb,
-        cr,
-        cells,
         &mut cuty[..],
         &mut cutcb[..],
         &mut cutcr[..],
         &mut cutcells[..],
     );
+    let settings = picture.settings;
+    let cut = Planes {
+        y: &cuty[..],
+        cb: &cutcb[..],
+        cr: &cutcr[..],
+    };
     filter_cut(
         alone(settings, luma),
-        &cuty[..],
-        &cutcb[..],
-        &cutcr[..],
+        &cut,
         &cutcells[..],
-        slices,
+        picture.slices,
         &mut owny[..],
         &mut owncb[..],
         &mut owncr[..],
     );
-    differing_samples(
-        settings,
-        luma,
-        &owny[..],
-        &owncb[..],
-        &owncr[..],
-        outy,
-        outcb,
-        outcr,
-    )
+    let own = Planes {
+        y: &owny[..],
+        cb: &owncb[..],
+        cr: &owncr[..],
+    };
+    differing_samples(settings, luma, &own, out)
 }

@@ -4,52 +4,37 @@ ghost use Rattle.filter.specs.Finished.{outputs};
 ghost use Rattle.picture.specs.Accepted.{Accepted};
 ghost use Rattle.picture.specs.Given.{bare, planes_of};
 ghost use Rattle.picture.specs.Ledger.{any_of};
-ghost use Rattle.picture.specs.Lent.{picture_given};
-ghost use Rattle.tile_check.specs.Answer.{Checkable, compared, differing, outcome, told};
-ghost use Rattle.tile_check.specs.Answer.{after, scratch_tests, written};
+ghost use Rattle.picture.specs.Lent.{picture_lent, planes_lent};
+ghost use Rattle.tile_check.specs.Answer.{Checkable, bad_scratch, compared, differing, outcome, scratch, told};
+ghost use Rattle.tile_check.specs.Answer.{after, written};
 ghost use Rattle.tile_check.specs.Lent.{scratch_of};
 
-use crate::TileAnswer;
+use crate::TileRefusal;
 use crate::cuts::{alone, compare_cut};
 use checks::{bad_cell_bytes, bad_planes};
-use ledger::Verdict;
-use picture::Settings;
+use picture::{Picture, Planes, Settings};
 use stage::apply_deblocking;
-use tile_parts::{TileAt, luma_part};
+use tile_parts::{TileAt, find_luma_part};
 
-// A list lent for the cut has not its exact length: its original planes, its cells, its output planes, by their
-// lengths. `own` are the cut's settings.
-fn bad_scratch(
-    own: Settings,
-    y: usize,
-    cb: usize,
-    cr: usize,
-    cells: usize,
-    outy: usize,
-    outcb: usize,
-    outcr: usize,
-) -> bool
+// A list lent for the cut has not its exact length: its original planes, its cells, its output planes. `own` are the
+// cut's settings.
+fn bad_scratch(own: Settings, cut: &Planes<'_>, cells: &[u8], out: &Planes<'_>) -> bool
     requires { (own.width ≤ 8192) × (own.height ≤ 8192) }
-    ensures { result ≡ any_of (scratch_tests (bare own) y cb cr cells outy outcb outcr) }
+    ensures { result ≡
+        any_of (bad_scratch (bare own) (scratch (planes_lent cut.now) cells.now (planes_lent out.now))) }
 {
-    bad_planes(own, y, cb, cr) | bad_planes(own, outy, outcb, outcr) | bad_cell_bytes(own, cells)
+    bad_planes(own, cut.y.len(), cut.cb.len(), cut.cr.len())
+        | bad_planes(own, out.y.len(), out.cb.len(), out.cr.len())
+        | bad_cell_bytes(own, cells.len())
 }
 
 // The tile of an accepted picture whose outputs are out: it is there, the lists lent for its cut have their lengths,
-// and the count.
+// and the count. The lists that are written stay parameters: what a struct leaves in a `&mut` field has no name in a
+// clause but its place in nested pairs.
 fn compare_tile(
-    settings: Settings,
-    y: &[u16],
-    cb: &[u16],
-    cr: &[u16],
-    cells: &[u8],
-    slices: &[u8],
-    columns: &[u16],
-    rows: &[u16],
+    picture: &Picture<'_>,
     at: TileAt,
-    outy: &[u16],
-    outcb: &[u16],
-    outcr: &[u16],
+    out: &Planes<'_>,
     cuty: &mut [u16],
     cutcb: &mut [u16],
     cutcr: &mut [u16],
@@ -57,36 +42,32 @@ fn compare_tile(
     owny: &mut [u16],
     owncb: &mut [u16],
     owncr: &mut [u16],
-) -> TileAnswer
-    requires { Accepted (picture_given settings y.now cb.now cr.now cells.now slices.now columns.now rows.now)
-        (planes_of outy.now outcb.now outcr.now) }
-    ensures answer { told result ≡ compared
-        (picture_given settings y.now cb.now cr.now cells.now slices.now columns.now rows.now) at
-        (scratch_of cuty.old cutcb.old cutcr.old cutcells.old owny.old owncb.old owncr.old)
-        (planes_of outy.now outcb.now outcr.now) }
+) -> Result<usize, TileRefusal>
+    requires { Accepted (picture_lent picture.now) (planes_lent out.now) }
+    ensures answer { told result ≡ compared (picture_lent picture.now) at
+        (scratch_of cuty.old cutcb.old cutcr.old cutcells.old owny.old owncb.old owncr.old) (planes_lent out.now) }
     ensures scratch { scratch_of cuty.new cutcb.new cutcr.new cutcells.new owny.new owncb.new owncr.new ≡
-        written (picture_given settings y.now cb.now cr.now cells.now slices.now columns.now rows.now) at
+        written (picture_lent picture.now) at
         (scratch_of cuty.old cutcb.old cutcr.old cutcells.old owny.old owncb.old owncr.old) }
 {
-    if (columns.len() <= at.column) | (rows.len() <= at.row) {
-        return TileAnswer::NoTile;
+    let Some(luma) = find_luma_part(picture.settings, picture.columns, picture.rows, at) else {
+        return Err(TileRefusal::NoTile);
+    };
+    let cut = Planes {
+        y: &cuty[..],
+        cb: &cutcb[..],
+        cr: &cutcr[..],
+    };
+    let own = Planes {
+        y: &owny[..],
+        cb: &owncb[..],
+        cr: &owncr[..],
+    };
+    if bad_scratch(alone(picture.settings, luma), &cut, &cutcells[..], &own) {
+        return Err(TileRefusal::Lengths);
     }
-    let luma = luma_part(settings, columns, rows, at);
-    if bad_scratch(
-        alone(settings, luma),
-        cuty.len(),
-        cutcb.len(),
-        cutcr.len(),
-        cutcells.len(),
-        owny.len(),
-        owncb.len(),
-        owncr.len(),
-    ) {
-        return TileAnswer::Lengths;
-    }
-    TileAnswer::Differing(compare_cut(
-        settings, luma, y, cb, cr, cells, slices, outy, outcb, outcr, cuty, cutcb, cutcr, cutcells,
-        owny, owncb, owncr,
+    Ok(compare_cut(
+        picture, luma, out, cuty, cutcb, cutcr, cutcells, owny, owncb, owncr,
     ))
 }
 
@@ -95,14 +76,7 @@ fn compare_tile(
 // whether the tile is there, then whether the lists lent for the cut have their exact lengths. By term 3 the count
 // is 0. Where there is no count, cut and own are as lent.
 pub fn check_tile(
-    settings: Settings,
-    y: &[u16],
-    cb: &[u16],
-    cr: &[u16],
-    cells: &[u8],
-    slices: &[u8],
-    columns: &[u16],
-    rows: &[u16],
+    picture: &Picture<'_>,
     at: TileAt,
     outy: &mut [u16],
     outcb: &mut [u16],
@@ -114,58 +88,26 @@ pub fn check_tile(
     owny: &mut [u16],
     owncb: &mut [u16],
     owncr: &mut [u16],
-) -> TileAnswer
+) -> Result<usize, TileRefusal>
     ensures answer { told result ≡
-        outcome (picture_given settings y.now cb.now cr.now cells.now slices.now columns.now rows.now)
-        (planes_of outy.old outcb.old outcr.old) at
+        outcome (picture_lent picture.now) (planes_of outy.old outcb.old outcr.old) at
         (scratch_of cuty.old cutcb.old cutcr.old cutcells.old owny.old owncb.old owncr.old) }
-    ensures agrees { Checkable (picture_given settings y.now cb.now cr.now cells.now slices.now columns.now rows.now)
-        (planes_of outy.old outcb.old outcr.old) at
+    ensures agrees { Checkable (picture_lent picture.now) (planes_of outy.old outcb.old outcr.old) at
         (scratch_of cuty.old cutcb.old cutcr.old cutcells.old owny.old owncb.old owncr.old) → told result
         ≡ differing 0 }
     ensures planes { planes_of outy.new outcb.new outcr.new ≡
-        outputs (picture_given settings y.now cb.now cr.now cells.now slices.now columns.now rows.now)
-        (planes_of outy.old outcb.old outcr.old) }
+        outputs (picture_lent picture.now) (planes_of outy.old outcb.old outcr.old) }
     ensures scratch { scratch_of cuty.new cutcb.new cutcr.new cutcells.new owny.new owncb.new owncr.new ≡
-        after (picture_given settings y.now cb.now cr.now cells.now slices.now columns.now rows.now)
-        (planes_of outy.old outcb.old outcr.old) at
+        after (picture_lent picture.now) (planes_of outy.old outcb.old outcr.old) at
         (scratch_of cuty.old cutcb.old cutcr.old cutcells.old owny.old owncb.old owncr.old) }
 {
-    let answer = apply_deblocking(
-        settings,
-        y,
-        cb,
-        cr,
-        cells,
-        slices,
-        columns,
-        rows,
-        &mut outy[..],
-        &mut outcb[..],
-        &mut outcr[..],
-    );
-    let Verdict::Accepted = answer else {
-        return TileAnswer::Refused(answer);
+    apply_deblocking(picture, &mut outy[..], &mut outcb[..], &mut outcr[..])?;
+    let out = Planes {
+        y: &outy[..],
+        cb: &outcb[..],
+        cr: &outcr[..],
     };
     compare_tile(
-        settings,
-        y,
-        cb,
-        cr,
-        cells,
-        slices,
-        columns,
-        rows,
-        at,
-        &outy[..],
-        &outcb[..],
-        &outcr[..],
-        cuty,
-        cutcb,
-        cutcr,
-        cutcells,
-        owny,
-        owncb,
-        owncr,
+        picture, at, &out, cuty, cutcb, cutcr, cutcells, owny, owncb, owncr,
     )
 }

@@ -1,18 +1,17 @@
 -- `check_tile` meets its contract: a refusal, or the tile compared, and what the lists hold after it; and by term 3 no
 -- sample differs.
 -- Assumes nothing.
-use mathlib.Core.Path.{◌∙◌}
+use mathlib.Core.Path.{ap, ◌∙◌}
 use native.Mathlib.Omega.{arith}
-use Rattle.ledger.proofs.Refusals.{refuses}
+use Rattle.std.proofs.lemmas.Result.{err_from_is_err_and}
 use Rattle.picture.specs.Given.{planes_of}
-use Rattle.picture.specs.Lent.{picture_given}
+use Rattle.picture.specs.Lent.{picture_lent}
 use Rattle.picture.specs.Picture.{Picture, Planes}
-use Rattle.tile_check.specs.Answer.{Scratch}
+use Rattle.tile_check.specs.Answer.{Scratch, told, told_refusal}
 use Rattle.tile_check.specs.Lent.{scratch_of}
 use Rattle.tile_check.proofs.Outcomes.{
   accepted_still,
   after_is,
-  no_refusal,
   none_differs,
   outcome_is,
   refusal_is,
@@ -23,94 +22,52 @@ use Rattle.tile_check.proofs.driver.check_tile.Goals.{Start}
 
 -- the picture, its outputs and the cut's lists at the call
 abbrev picture : Start → Picture
-picture c =
-    let a = c.args in
-    picture_given a.settings a.y.now a.cb.now a.cr.now a.cells.now a.slices.now a.columns.now a.rows.now
+picture c = picture_lent c.args.picture.now
 
 abbrev lent : Start → Planes
-lent c =
-    planes_of c.args.outy.now c.args.outcb.now c.args.outcr.now
+lent c = planes_of c.args.outy.now c.args.outcb.now c.args.outcr.now
 
 abbrev lists : Start → Scratch
 lists c =
     let a = c.args in
     scratch_of a.cuty.now a.cutcb.now a.cutcr.now a.cutcells.now a.owny.now a.owncb.now a.owncr.now
 
-pub returns-in_default-clause-answer : goal.returns-in_default-clause-answer
-returns-in_default-clause-answer c =
-    let v = c.apply_deblocking-answer.result in
-    let told = c.apply_deblocking-answer.ensures.verdict in
-    let some = refuses v c.in_default.not-Accepted in refusal_is (picture (goal.at.returns-in_default-clause-answer
-    c).Start) (lent (goal.at.returns-in_default-clause-answer c).Start) c.args.at
-    (lists (goal.at.returns-in_default-clause-answer c).Start) v told some
+pub returns-in_err-apply_deblocking-clause-answer : goal.returns-in_err-apply_deblocking-clause-answer
+returns-in_err-apply_deblocking-clause-answer c =
+    let s = (goal.at.returns-in_err-apply_deblocking-clause-answer c).Start in
+    let given = err_from_is_err_and c.from_residual.result c.from_residual.ensures.1 in
+    ap told given.1
+    ∙ ap told_refusal given.2
+    ∙ refusal_is (picture s) (lent s) c.args.at (lists s) _ c.in_err-apply_deblocking.ensures.verdict
 
-pub returns-in_default-clause-agrees : goal.returns-in_default-clause-agrees
-returns-in_default-clause-agrees c =
-    let v = c.apply_deblocking-answer.result in
-    let told = c.apply_deblocking-answer.ensures.verdict in
-    let some = refuses v c.in_default.not-Accepted in
-    (λ ok. absurd (no_refusal (picture (goal.at.returns-in_default-clause-agrees c).Start)
-    (lent (goal.at.returns-in_default-clause-agrees c).Start) c.args.at
-    (lists (goal.at.returns-in_default-clause-agrees c).Start) v told some ok))
-
-pub returns-in_default-clause-planes : goal.returns-in_default-clause-planes
-returns-in_default-clause-planes c =
-    let v = c.apply_deblocking-answer.result in
-    let told = c.apply_deblocking-answer.ensures.verdict in
-    let some = refuses v c.in_default.not-Accepted in c.apply_deblocking-answer.ensures.planes
-
-pub returns-in_default-clause-scratch : goal.returns-in_default-clause-scratch
-returns-in_default-clause-scratch c =
-    let v = c.apply_deblocking-answer.result in
-    let told = c.apply_deblocking-answer.ensures.verdict in
-    let some = refuses v c.in_default.not-Accepted in refusal_leaves
-    (picture (goal.at.returns-in_default-clause-scratch c).Start)
-    (lent (goal.at.returns-in_default-clause-scratch c).Start) c.args.at
-    (lists (goal.at.returns-in_default-clause-scratch c).Start) v told some
+pub returns-in_err-apply_deblocking-clause-scratch : goal.returns-in_err-apply_deblocking-clause-scratch
+returns-in_err-apply_deblocking-clause-scratch c =
+    let s = (goal.at.returns-in_err-apply_deblocking-clause-scratch c).Start in
+    refusal_leaves (picture s) (lent s) c.args.at (lists s) _ c.in_err-apply_deblocking.ensures.verdict
 
 pub compare_tile-requires : goal.compare_tile-requires
 compare_tile-requires c =
-    let kept = c.apply_deblocking-answer.auto in
-    accepted_still (picture (goal.at.compare_tile-requires c).Start) (lent (goal.at.compare_tile-requires c).Start)
-    c.apply_deblocking-answer.ensures.verdict c.in-Accepted.is
-    (omega (arith, kept)) (omega (arith, kept)) (omega (arith, kept))
+    let s = (goal.at.compare_tile-requires c).Start in
+    let kept = c.apply_deblocking.auto in
+    accepted_still (picture s) (lent s) c.in_ok-apply_deblocking.ensures.verdict (omega (arith, kept))
+    (omega (arith, kept))
+    (omega (arith, kept))
 
 pub returns-clause-answer : goal.returns-clause-answer
 returns-clause-answer c =
-    let told = c.apply_deblocking-answer.ensures.verdict in
-    let left = c.apply_deblocking-answer.ensures.planes in
-    let is = outcome_is (picture (goal.at.returns-clause-answer c).Start)
-    (lent (goal.at.returns-clause-answer c).Start) c.args.at (lists (goal.at.returns-clause-answer c).Start) told
-    c.in-Accepted.is left
-    c.compare_tile.ensures.answer in is
+    let s = (goal.at.returns-clause-answer c).Start in
+    outcome_is (picture s) (lent s) c.args.at (lists s) c.in_ok-apply_deblocking.ensures.verdict
+    c.apply_deblocking.ensures.planes c.compare_tile.ensures.answer
 
 pub returns-clause-agrees : goal.returns-clause-agrees
-returns-clause-agrees c =
-    let told = c.apply_deblocking-answer.ensures.verdict in
-    let left = c.apply_deblocking-answer.ensures.planes in
-    let is = outcome_is (picture (goal.at.returns-clause-agrees c).Start)
-    (lent (goal.at.returns-clause-agrees c).Start) c.args.at (lists (goal.at.returns-clause-agrees c).Start) told
-    c.in-Accepted.is left
-    c.compare_tile.ensures.answer in (λ fit. is ∙ none_differs (picture (goal.at.returns-clause-agrees c).Start)
-    (lent (goal.at.returns-clause-agrees c).Start) c.args.at (lists (goal.at.returns-clause-agrees c).Start) fit)
-
-pub returns-clause-planes : goal.returns-clause-planes
-returns-clause-planes c =
-    let told = c.apply_deblocking-answer.ensures.verdict in
-    let left = c.apply_deblocking-answer.ensures.planes in
-    let is = outcome_is (picture (goal.at.returns-clause-planes c).Start)
-    (lent (goal.at.returns-clause-planes c).Start) c.args.at (lists (goal.at.returns-clause-planes c).Start) told
-    c.in-Accepted.is left
-    c.compare_tile.ensures.answer in left
+returns-clause-agrees c fit =
+    let s = (goal.at.returns-clause-agrees c).Start in
+    outcome_is (picture s) (lent s) c.args.at (lists s) c.in_ok-apply_deblocking.ensures.verdict
+    c.apply_deblocking.ensures.planes c.compare_tile.ensures.answer
+    ∙ none_differs (picture s) (lent s) c.args.at (lists s) fit
 
 pub returns-clause-scratch : goal.returns-clause-scratch
 returns-clause-scratch c =
-    let told = c.apply_deblocking-answer.ensures.verdict in
-    let left = c.apply_deblocking-answer.ensures.planes in
-    let is = outcome_is (picture (goal.at.returns-clause-scratch c).Start)
-    (lent (goal.at.returns-clause-scratch c).Start) c.args.at (lists (goal.at.returns-clause-scratch c).Start) told
-    c.in-Accepted.is left
-    c.compare_tile.ensures.answer in after_is (picture (goal.at.returns-clause-scratch c).Start)
-    (lent (goal.at.returns-clause-scratch c).Start) c.args.at (lists (goal.at.returns-clause-scratch c).Start) told
-    c.in-Accepted.is
+    let s = (goal.at.returns-clause-scratch c).Start in
+    after_is (picture s) (lent s) c.args.at (lists s) c.in_ok-apply_deblocking.ensures.verdict
     c.compare_tile.ensures.scratch
