@@ -1,2 +1,1 @@
-mod Prime
 mod Rows

@@ -1,15 +1,15 @@
 -- The samples of a plane, taken one by one and row by row.
 -- Assumes nothing.
-use Rattle.std.proofs.Common.{◌≡◌, ℕ, ◌+◌, ◌*◌, ◌<◌, ◌≤◌, Bool, true, false, cond, ◌&&◌, ltb, List, [], ◌∷◌, ◌++◌}
+use Rattle.std.proofs.Common.{◌≡◌, ℕ, ◌+◌, ◌*◌, ◌<◌, ◌≤◌, Bool, true, false, cond, List, [], ◌∷◌, ◌++◌}
 use Rattle.std.proofs.Common.{length, take, drop, sym, refl, ap, ◌∙◌, le_trans, mul-le-mul_right, mul_comm, add-mul}
-use Rattle.std.proofs.Common.{mul-one, arith, length-take, take_all, drop-cons, take-take, drop-drop, take-add}
-use Rattle.std.proofs.Common.{lt-ltb, eq-eqb, eqb-true}
-use lib.Seq.{drop-nil}
+use Rattle.std.proofs.Common.{arith, length-take, take_all, drop-cons, take-take, drop-drop, take-add}
+use Rattle.std.proofs.Common.{lt-ltb, eq-eqb, eqb-true, ne_eqb}
 use Rattle.picture.specs.Plane.{at}
-use Rattle.plane_view.proofs.Places.{place_of}
-use Rattle.plane_view.specs.View.{is_plane, plane_sample}
-use Rattle.plane_view.specs.declared.samples.Sample.TheVariants.{Inside, Outside}
-use Rattle.fingerprint.specs.Fnv.{basis, step, with_sample, with_samples, shown, row_shown}
+use Rattle.std.specs.List.{fold}
+use Rattle.plane_view.proofs.Places.{place_of, size_at}
+use Rattle.plane_view.specs.View.{is_plane, sample_in, view_size}
+use Rattle.std.specs.Prelude.{Some}
+use Rattle.fingerprint.specs.Fnv.{basis, step, with_samples, shown, row_shown}
 use Rattle.fingerprint.specs.Fnv.{list_fingerprint, plane_fingerprint}
 
 joined : (n : ℕ) (a b : List ℕ) → with_samples n (a ++ b) ≡ with_samples (with_samples n a) b
@@ -22,34 +22,30 @@ more : (n k m : ℕ) (l : List ℕ)
 more n k m l = sym (rw take-add (joined n (take k l) (take m (drop k l))))
 
 module _ (list : List ℕ) (width height : ℕ) where
-  -- what is read at a place is the sample there, or none where the list is no plane
-  module _ (x y : ℕ) (column : x < width) (row : y < height) (n : ℕ) where
-    read_at : (b : Bool) → is_plane list width height ≡ b
-        → with_sample n (cond (b && (ltb x width && ltb y height)) (Inside (at list width x y)) Outside)
-        ≡ with_samples n (take 1 (drop (y * width + x) (cond b list [])))
-    unfolding with_sample at
-    read_at true e =
-        let there : y * width + x < length list =
-        omega (arith, eqb-true (length list) (width * height) e, place_of column row) in
-        simp (lt-ltb x width column, lt-ltb y height row, drop-cons list (y * width + x) 0 there)
-    read_at false e = simp drop-nil
+  -- a plane has a sample at each of its places
+  module _ (whole : length list ≡ width * height) (x y : ℕ) (column : x < width) (row : y < height) where
+    there : y * width + x < length list
+    there = omega (arith, whole, place_of column row)
 
-    pub one_sample : with_sample n (plane_sample list width height x y)
+    pub read : sample_in list width height x y ≡ Some (at list width x y)
+    unfolding at
+    read = simp (lt-ltb x width column, lt-ltb y height row, lt-ltb (y * width + x) (length list) there)
+
+    one_sample : (n : ℕ) → step n (at list width x y)
         ≡ with_samples n (take 1 (drop (y * width + x) (shown list width height)))
-    unfolding shown
-    one_sample = read_at (is_plane list width height) refl
+    unfolding shown at
+    one_sample n = simp (eq-eqb (length list) (width * height) whole, drop-cons list (y * width + x) 0 there)
 
     -- x samples of a row, and the next
-    pub row_more : (before : ℕ) → n ≡ with_samples before (take x (row_shown list width height y))
-        → with_sample n (plane_sample list width height x y)
-        ≡ with_samples before (take (x + 1) (row_shown list width height y))
+    pub row_more : (before : ℕ) {n : ℕ} → n ≡ with_samples before (take x (row_shown list width height y))
+        → step n (at list width x y) ≡ with_samples before (take (x + 1) (row_shown list width height y))
     unfolding row_shown
-    row_more before e =
+    row_more before {n} e =
         let samples = drop (y * width) (shown list width height) in
         let so_far : take x (take width samples) ≡ take x samples = take-take x width samples (omega arith) in
         let then : take (x + 1) (take width samples) ≡ take (x + 1) samples =
         take-take (x + 1) width samples (omega arith) in
-        one_sample ∙ rw (e, so_far, then, ← drop-drop) (more before x 1 samples)
+        one_sample n ∙ rw (e, so_far, then, ← drop-drop) (more before x 1 samples)
 
   pub row_all : (n x y : ℕ) → width ≤ x
       → with_samples n (take x (row_shown list width height y)) ≡ with_samples n (row_shown list width height y)
@@ -79,7 +75,23 @@ module _ (list : List ℕ) (width height : ℕ) where
       ap (with_samples basis)
       (take_all (y * width) (shown list width height) (le_trans all (mul-le-mul_right width end)))
 
--- a list is a plane of one row
-pub one_row : (list : List ℕ) → plane_fingerprint list (length list) 1 ≡ list_fingerprint list
-unfolding shown plane_fingerprint
-one_row list = rw (mul-one, eq-eqb (length list) (length list) refl) refl
+-- a view shows what its plane does, and the refused one nothing
+seen_at : (list : List ℕ) (w h : ℕ) (b : Bool) → is_plane list w h ≡ b
+    → shown list (size_at b w h).width (size_at b w h).height ≡ shown list w h
+unfolding shown
+seen_at list w h true e = refl
+seen_at list w h false e = simp e (nothing list)
+  where
+    nothing : (l : List ℕ) → cond (is_plane l 0 0) l [] ≡ []
+    nothing [] = refl
+    nothing (s ∷ r) = rw (ne_eqb (length (s ∷ r)) 0 (λ e. omega (arith, e))) refl
+
+pub seen : (list : List ℕ) (w h : ℕ)
+    → plane_fingerprint list (view_size list w h).width (view_size list w h).height ≡ plane_fingerprint list w h
+unfolding plane_fingerprint
+seen list w h = ap list_fingerprint (seen_at list w h (is_plane list w h) refl)
+
+-- the samples of a list, one by one
+pub folded : (h : ℕ) (list : List ℕ) → fold step h list ≡ with_samples h list
+folded h [] = refl
+folded h (sample ∷ r) = folded (step h sample) r

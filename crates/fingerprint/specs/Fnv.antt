@@ -2,8 +2,6 @@
 -- to be hashed: hash = hash xor octet_of_data; hash = hash * FNV_prime", modulo 2^64.
 use Rattle.std.specs.Prelude.{ℕ, ◌*◌, ◌%◌, ◌^◌, cond, List, [], ◌∷◌, take, drop, bit_xor}
 use Rattle.plane_view.specs.View.{is_plane}
-use Rattle.plane_view.specs.declared.samples.Sample.{Sample}
-use Rattle.plane_view.specs.declared.samples.Sample.TheVariants.{Inside, Outside}
 
 abbrev pub basis : ℕ
 basis = 14695981039346656037
@@ -15,11 +13,6 @@ prime = 1099511628211
 -- the hash h with one more number
 unfoldable pub step : ℕ → ℕ → ℕ
 step h n = (bit_xor h n * prime) % 2 ^ 64
-
--- with what was read at a place of a plane: a place outside adds nothing
-unfoldable pub with_sample : ℕ → Sample → ℕ
-with_sample h (Inside sample) = step h sample
-with_sample h Outside = h
 
 -- with samples, in order
 abbrev pub with_samples : ℕ → List ℕ → ℕ

@@ -1,42 +1,16 @@
--- Where a place of a plane stands in the list of its rows. Whether a product is at most a number is asked by a
--- division, which cannot overflow; these say what the answer means.
-use Prim.Native.Nat.{ℕ, ◌+◌, ◌-◌, ◌*◌, ◌/◌, ◌≤◌, ◌<◌}
+-- Where a place of a plane stands in the list of its rows, and what a view of a plane gives.
+use Prim.Native.Nat.{ℕ, ◌+◌, ◌*◌, ◌≤◌, ◌<◌}
 use mathlib.Core.Bool.{Bool, true, false, cond, ◌&&◌}
 use mathlib.Core.List.{List}
 use mathlib.Core.Path.{◌≡◌, refl, ap, subst⁻¹}
-use native.Mathlib.Nat.{mul_comm, mul-le-mul_right, add-mul, le-div_iff_mul-le, div-lt_iff_lt-mul}
+use native.Mathlib.Nat.{mul_comm, mul-le-mul_right, add-mul}
 use native.Mathlib.Omega.{arith}
-use borrow.Author.Tests.{ltb-true, eqb-true, lt-ltb, le-ltb, ne_eqb}
-use lib.Dec.{ltb, eqb}
+use borrow.Author.Tests.{ltb-true, eqb-true, lt-ltb, le-ltb}
+use lib.Dec.{ltb}
 use lib.ListN.{length}
 use Rattle.picture.specs.Plane.{at}
-use Rattle.plane_view.specs.View.{is_plane, view_size, sample_in, plane_sample}
-use Rattle.plane_view.specs.declared.samples.Sample.TheVariants.{Inside, Outside}
-use Rattle.plane_view.specs.declared.samples.Size.{Size}
-
--- h rows of w samples are at most n samples
-pub rows_fit : {n w h : ℕ} → 0 < w → h ≤ n / w → w * h ≤ n
-rows_fit {n} {w} {h} some le = omega (arith, mul_comm w h, (le-div_iff_mul-le some).0 le)
-
--- or more than n
-pub rows_pass : (n : ℕ) {w h : ℕ} → 0 < w → n / w < h → eqb n (w * h) ≡ false
-rows_pass n {w} {h} some lt = ne_eqb n (w * h) (λ e. omega (arith, e, mul_comm w h, (div-lt_iff_lt-mul some).0 lt))
-
--- the place of column x and row y is among n samples
-pub place_in : {n w x y : ℕ} → x < w → x < n → y ≤ (n - 1 - x) / w → y * w + x < n
-place_in {n} {w} {x} {y} column first le =
-    let some : 0 < w = omega arith in
-    omega (arith, (le-div_iff_mul-le some).0 le)
-
--- or past them
-pub place_past : {n w x y : ℕ} → x < w → x < n → (n - 1 - x) / w < y → n ≤ y * w + x
-place_past {n} {w} {x} {y} column first lt =
-    let some : 0 < w = omega arith in
-    omega (arith, (div-lt_iff_lt-mul some).0 lt)
-
--- a column past the list's length is past it in every row
-pub column_past : {n x : ℕ} (before : ℕ) → n ≤ x → n ≤ before + x
-column_past before past = omega arith
+use Rattle.plane_view.specs.View.{Size, is_plane, view_size, sample_in, plane_sample}
+use Rattle.std.specs.Prelude.{None, Some}
 
 -- every column of every row of a plane has its place in the list
 pub place_of : {w h x y : ℕ} → x < w → y < h → y * w + x < w * h
@@ -52,18 +26,18 @@ third true false c h = refl
 third true true c h = h refl refl
 
 -- a view's size, at the two answers of `is_plane`
-abbrev size_at : Bool → ℕ → ℕ → Size
+abbrev pub size_at : Bool → ℕ → ℕ → Size
 size_at b w h = cond b (record { width = w; height = h }) (record { width = 0; height = 0 })
 
 -- the sample that a view gives, at the two answers of `is_plane`
 seen_at : (list : List ℕ) (w h x y : ℕ) (b : Bool) → is_plane list w h ≡ b
     → sample_in list (size_at b w h).width (size_at b w h).height x y
-    ≡ cond (b && (ltb x w && ltb y h)) (Inside (at list w x y)) Outside
+    ≡ cond (b && (ltb x w && ltb y h)) (Some (at list w x y)) None
 seen_at list w h x y true e =
     let in_list : x < w → y < h → y * w + x < length list =
     λ column row. subst⁻¹ (λ (n : ℕ). y * w + x < n) (eqb-true _ _ e) (place_of column row)
     in
-    ap (λ (t : Bool). cond t (Inside (at list w x y)) Outside)
+    ap (λ (t : Bool). cond t (Some (at list w x y)) None)
     (third (ltb x w) (ltb y h) (ltb (y * w + x) (length list))
     (λ column row. lt-ltb (y * w + x) (length list) (in_list (ltb-true x w column) (ltb-true y h row))))
 seen_at list w h x y false e = simp (le-ltb x 0 (omega arith))

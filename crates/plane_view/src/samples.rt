@@ -1,68 +1,71 @@
-// What a view of a plane does, on the slice and the numbers. Any numbers may be passed: whether a product fits is
-// asked by a division.
+// How a view of a plane is made, and what it gives. Any numbers may be passed.
 ghost use Rattle.std.specs.Prelude.{◌≡◌};
-ghost use Rattle.plane_view.specs.View.{is_plane, view_size, sample_in};
+ghost use Rattle.plane_view.specs.View.{is_plane, view_size, sample_in, plane_sample};
 
-// What a read gives.
-#[derive(Clone, Copy)]
-pub enum Sample {
-    Inside(u16),
-    Outside,
-}
-
-// The columns and rows that a view shows.
-#[derive(Clone, Copy)]
-pub struct Size {
-    pub width: usize,
-    pub height: usize,
-}
+use crate::PlaneView;
 
 // Whether there is a sample for each column of each row, and no more.
 pub fn is_plane(samples: &[u16], width: usize, height: usize) -> bool
     ensures { result ≡ is_plane samples.now width height }
 {
-    if width == 0 {
-        return samples.len() == 0;
-    }
-    // That is: width * height is at most the length.
-    if height <= samples.len() / width {
-        samples.len() == width * height
-    } else {
-        false
+    match width.checked_mul(height) {
+        Some(area) => samples.len() == area,
+        None => false,
     }
 }
 
-// The size of a plane's view; 0 by 0 where the samples are no plane.
-pub fn view_size(samples: &[u16], width: usize, height: usize) -> Size
-    ensures { result ≡ view_size samples.now width height }
+// The view of a plane. Samples that are no plane of that size have a view of 0 by 0, so that every place is outside;
+// `is_plane` tells it.
+pub fn plane_view<'a>(samples: &'a [u16], width: usize, height: usize) -> PlaneView<'a>
+    ensures samples { result.samples ≡ samples.entry }
+    ensures width { result.width ≡ (view_size samples.now width height).width }
+    ensures height { result.height ≡ (view_size samples.now width height).height }
 {
     if is_plane(samples, width, height) {
-        Size { width, height }
+        PlaneView {
+            samples,
+            width,
+            height,
+        }
     } else {
-        Size {
+        PlaneView {
+            samples,
             width: 0,
             height: 0,
         }
     }
 }
 
-// The sample at column x of row y, where the size and the slice have that place.
-pub fn sample_of(samples: &[u16], width: usize, height: usize, x: usize, y: usize) -> Sample
-    ensures { result ≡ sample_in samples.now width height x y }
+impl<'a> PlaneView<'a> {
+    pub fn width(self) -> usize
+        ensures { result ≡ self.entry.width }
+    {
+        self.width
+    }
+
+    pub fn height(self) -> usize
+        ensures { result ≡ self.entry.height }
+    {
+        self.height
+    }
+
+    // The sample at column x of row y.
+    pub fn sample_at(self, x: usize, y: usize) -> Option<u16>
+        ensures { result ≡ sample_in self.entry.samples.now self.entry.width self.entry.height x y }
+    {
+        if self.width <= x {
+            return None;
+        }
+        if self.height <= y {
+            return None;
+        }
+        Some(self.samples[y * self.width + x])
+    }
+}
+
+// The sample at column x of row y of a plane, by a view of it.
+pub fn plane_sample(samples: &[u16], width: usize, height: usize, x: usize, y: usize) -> Option<u16>
+    ensures { result ≡ plane_sample samples.now width height x y }
 {
-    if width <= x {
-        return Sample::Outside;
-    }
-    if height <= y {
-        return Sample::Outside;
-    }
-    if samples.len() <= x {
-        return Sample::Outside;
-    }
-    // That is: y * width + x is below the length.
-    if y <= (samples.len() - 1 - x) / width {
-        Sample::Inside(samples[y * width + x])
-    } else {
-        Sample::Outside
-    }
+    plane_view(samples, width, height).sample_at(x, y)
 }

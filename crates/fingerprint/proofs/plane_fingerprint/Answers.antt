@@ -1,20 +1,22 @@
--- `plane_fingerprint` meets its contract: y rows are in, and each turn takes the next. The measure is the rows that
--- are left.
+-- `plane_fingerprint` meets its contract: each turn takes the next row of the view.
 -- Assumes nothing.
-use Rattle.std.proofs.Common.{refl, ◌∙◌, zero-mul, arith}
-use Rattle.fingerprint.proofs.Rows.{rows_more, rows_all}
+use Rattle.std.proofs.Common.{ℕ, List, Bor, ap, ap₂, ◌∙◌, arith}
+use Rattle.fingerprint.specs.Fnv.{plane_fingerprint}
+use Rattle.fingerprint.proofs.Rows.{rows_all, rows_more, seen}
 use Rattle.fingerprint.proofs.plane_fingerprint.Goals as goal
-
-pub loop-y-init : goal.loop-y-init
-loop-y-init c =
-    rw zero-mul refl
 
 pub loop-y-preserved : goal.loop-y-preserved
 loop-y-preserved c =
-    let a = c.args in
-    rw c.with_row-sum.ensures (rows_more a.plane.now a.width a.height c.loop-y.y c.loop-y.invariant)
+    let v = c.plane_view-view.result in
+    c.with_row-sum.ensures ∙ rows_more v.samples.now v.width v.height c.loop-y.y c.loop-y.invariant
 
 pub returns : goal.returns
 returns c =
     let a = c.args in
-    c.loop-y.invariant ∙ rows_all a.plane.now a.width a.height c.loop-y.y (omega arith)
+    let view = c.plane_view-view in
+    let v = view.result in
+    c.loop-y.invariant
+    ∙ rows_all v.samples.now v.width v.height c.loop-y.y (omega arith)
+    ∙ ap (λ (list : Bor (List ℕ)). plane_fingerprint list.now v.width v.height) view.ensures.samples
+    ∙ ap₂ (plane_fingerprint a.plane.now) view.ensures.width view.ensures.height
+    ∙ seen a.plane.now a.width a.height

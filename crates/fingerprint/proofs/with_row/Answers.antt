@@ -1,22 +1,32 @@
--- `with_row` meets its contract: x samples of the row are in, and each turn takes the next. The measure is the columns
--- that are left.
+-- `with_row` meets its contract: each turn takes the next sample of the row.
 -- Assumes nothing.
-use Rattle.std.proofs.Common.{refl, ◌∙◌, arith}
-use Rattle.fingerprint.proofs.Rows.{row_more, row_all}
+use Rattle.std.proofs.Common.{◌≡◌, ◌*◌, length, ap, ◌∙◌, arith}
+use Rattle.picture.specs.Plane.{at}
+use Rattle.fingerprint.proofs.Rows.{read, row_all, row_more}
+use Rattle.fingerprint.specs.Fnv.{step}
 use Rattle.fingerprint.proofs.with_row.Goals as goal
+use Rattle.fingerprint.proofs.with_row.Goals.{in-Some, in_default, Joined-sample_at}
 
-pub loop-x-init : goal.loop-x-init
-loop-x-init c =
-    (omega arith, refl)
+-- the view is of a plane
+whole : (c : Joined-sample_at) → let v = c.args.plane in length v.samples.now ≡ v.width * v.height
+whole c = c.args.plane.whole (omega arith)
 
 pub loop-x-preserved : goal.loop-x-preserved
 loop-x-preserved c =
-    let a = c.args in
-    let next = row_more a.plane.now a.width a.height c.loop-x.x a.y (omega arith) (omega arith)
-    c.loop-x.sum a.before c.loop-x.invariant.1 in
-    (omega arith, rw (c.with_sample-sum.ensures, c.plane_sample.ensures) next)
+    let v = c.args.plane in
+    let x = c.loop-x.x in
+    let there = c.sample_at.ensures
+    ∙ read v.samples.now v.width v.height (whole c) x c.args.y (omega arith) c.requires in
+    elim c.match-sample_at.branch [
+      | in-Some w ↦
+          let same : w.in-Some.sample ≡ at v.samples.now v.width x c.args.y = cc in
+          w.sum-is ∙ w.with_word-sum.ensures ∙ ap (step c.loop-x.sum) same
+          ∙ row_more v.samples.now v.width v.height (whole c) x c.args.y (omega arith) c.requires c.args.before
+          c.loop-x.invariant
+      | in_default w ↦ absurd (w.in_default.not-Some _ there)
+    ]
 
 pub returns : goal.returns
 returns c =
-    let a = c.args in
-    c.loop-x.invariant.1 ∙ row_all a.plane.now a.width a.height a.before c.loop-x.x a.y (omega arith)
+    let v = c.args.plane in
+    c.loop-x.invariant ∙ row_all v.samples.now v.width v.height c.args.before c.loop-x.x c.args.y (omega arith)

@@ -1,8 +1,9 @@
 -- `plane_sample` meets its contract: what the view gives is the plane's sample.
+-- Assumes nothing.
 use Rattle.std.proofs.Common.{ℕ, List, Bor, ap, ap₂, ◌∙◌}
 use Rattle.plane_view.specs.View.{sample_in}
 use Rattle.plane_view.proofs.Places.{seen}
-use Rattle.plane_view.proofs.plane_sample.Goals as goal
+use Rattle.plane_view.proofs.samples.plane_sample.Goals as goal
 
 pub returns : goal.returns
 returns c =
