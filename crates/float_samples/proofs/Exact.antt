@@ -7,12 +7,11 @@ use Rattle.std.proofs.Common.{mul-lt-mul_of_pos_right, mul-pos, zero-mul, mul-on
 use Rattle.std.proofs.Common.{arith, le→leb, eqb→eq, lt→ltb, pow_pos, pow_mono, pow-add, shl_lt, le-ltb}
 use native.Mathlib.Nat.{eq_of_mul-eq-mul_right}
 use mathlib.Core.Bool.{false≢true}
-use lib.Ieee.{Float, nan, inf, fin, binary32, up, down, hid, top, size, round, neg, div, mul, lt, ne}
+use lib.Ieee.{Float, nan, inf, fin, binary32, up, down, hid, top, size, round, neg, div, mul, lt}
 use lib.Ieee.{of_int, in_float, to_unsigned, to_bits, of_bits, is_nan}
 use lib.Ieee.Fits.{down_pos}
 use lib.Ieee.Bits.{is_true, cond_no, of_bits-to_bits}
 use lib.Ieee.Nearest.{div_same}
-use lib.Ieee.Compare.{differs_from_itself, nan_differs}
 use lib.Ieee.Exact.{HasValue, round_exact}
 use lib.Ieee.Back.{round_whole}
 use lib.Ieee.Positive.{first_pos}
@@ -223,16 +222,6 @@ not_below_zero (fin true m e) n d v = absurd (true≢false v.0)
 not_below_zero (fin false m e) n d v = rw (zero-mul (down e)) (le-ltb (m * up e * 1) 0 zero-le)
 
 -- ---- a float that is a number
-pub no_number : (x : Float) → ne x x ≡ true → T (not (is_nan x)) → ⊥
-unfolding is_nan
-no_number x h t = subst (λ (z : Float). T (not (is_nan z))) (differs_from_itself x (subst T (sym h) tt)) t
-
-pub is_number : (x : Float) → ne x x ≡ false → T (not (is_nan x))
-unfolding is_nan
-is_number nan h = absurd (true≢false (sym nan_differs ∙ h))
-is_number (inf s) h = tt
-is_number (fin s m e) h = tt
-
 pub exact_is_number : (x : Float) (n : ℤ) (d : ℕ) → Exactly x n d → T (not (is_nan x))
 unfolding Exactly is_nan
 exact_is_number nan n d v = v

@@ -1,7 +1,8 @@
 -- A sample and the float that it gives: luma, chroma below the middle, chroma from the middle on.
-use Rattle.std.proofs.Common.{◌≡◌, ℕ, suc, ◌+◌, ◌-◌, ◌*◌, ◌^◌, ◌<◌, ◌≤◌, Bool, true, false, not, T, ltb, ◌⊎◌, ℤ}
+use Rattle.std.proofs.Common.{◌≡◌, ℕ, suc, ◌-◌, ◌*◌, ◌^◌, ◌<◌, ◌≤◌, Bool, true, false, not, T, ltb, ◌⊎◌, ℤ}
 use Rattle.std.proofs.Common.{pos, negsuc, sym, ap, ◌∙◌, subst, inl, inr, true≢false, lt_of_lt_of_le, pow-suc}
 use Rattle.std.proofs.Common.{arith, ltb→lt, nltb→le, pow_mono}
+use Rattle.std.specs.Prelude.{Option, None, Some, SomeIff}
 use lib.Ieee.{Float, fin, neg, lt}
 use Rattle.ints.proofs.Laws.{diff_neg, diff_pos}
 use Rattle.float_samples.specs.Fraction.{Exactly}
@@ -46,10 +47,11 @@ module _ (d s half : ℕ) (x : Float) (e : half ≡ 2 ^ (d - 1)) (r : s < 2 ^ d)
       record { range = r; exact = subst (λ (z : ℤ). Exactly (neg x) z d) n w }
 
 -- ---- from such a float back to its sample. `WholeIs d x r`: where x is a whole number over 2 ^ d, that number is r
-abbrev pub WholeIs : ℕ → Float → ℕ → Type 0
-WholeIs d x r = (n : ℕ) → n < 2 ^ 17 → Exactly x (pos n) d → r ≡ n
+abbrev pub WholeIs : ℕ → Float → Option ℕ → Type 0
+WholeIs d x r = (n : ℕ) → n < 2 ^ 17 → Exactly x (pos n) d → r ≡ Some n
 
-pub luma_whole : (d : ℕ) (x : Float) (r : ℕ) → DepthOk d → WholeIs d x r → (s : ℕ) → Gives d false s x → r ≡ s
+pub luma_whole : (d : ℕ) (x : Float) (r : Option ℕ) → DepthOk d → WholeIs d x r → (s : ℕ) → Gives d false s x
+    → r ≡ Some s
 unfolding numerator
 luma_whole d x r D w s g = w s (bigger s (small d s D g.range)) g.exact
   where
@@ -84,7 +86,8 @@ sides d s x g = go (ltb s half) (ltb→lt s half) (nltb→le s half)
         let v = at (over_middle d s (h tt)) in
         inr (h tt, not_below_zero x (s - half) d v, v)
 
-module _ (d half : ℕ) (x : Float) (r : ℕ) (D : DepthOk d) (e : half ≡ 2 ^ (d - 1)) (s : ℕ) (g : Gives d true s x) where
+module _ (d half : ℕ) (x : Float) (r : Option ℕ) (D : DepthOk d) (e : half ≡ 2 ^ (d - 1)) (s : ℕ)
+    (g : Gives d true s x) where
   given_sides : Sides d half s x
   given_sides = subst (λ (a : ℕ). Sides d a s x) (sym e) (sides d s x g)
 
@@ -98,19 +101,18 @@ module _ (d half : ℕ) (x : Float) (r : ℕ) (D : DepthOk d) (e : half ≡ 2 ^ 
       lower a h = omega arith
 
   -- the float is below zero, and r is the whole number of its opposite
-  pub under : below_zero x ≡ true → WholeIs d (neg x) r → (r ≤ half) × (half - r ≡ s)
+  pub under : below_zero x ≡ true → WholeIs d (neg x) r → (s ≤ half) × (r ≡ Some (half - s))
   under t w =
       elim given_sides [
         | inl a ↦
             let H = half_small in
             let l : s < half = a.0 in
-            let q : r ≡ half - s = w (half - s) (omega arith) a.2 in
-            (omega arith, omega arith)
+            (omega arith, w (half - s) (omega arith) a.2)
         | inr b ↦ absurd (true≢false (sym t ∙ b.1))
       ]
 
   -- it is not below zero, and r is its whole number
-  pub over : below_zero x ≡ false → WholeIs d x r → (r ≤ half) × (half + r ≡ s)
+  pub over : below_zero x ≡ false → WholeIs d x r → (half ≤ s) × (s < 65536) × (r ≡ Some (s - half))
   over t w =
       elim given_sides [
         | inl a ↦ absurd (true≢false (sym a.1 ∙ t))
@@ -118,9 +120,13 @@ module _ (d half : ℕ) (x : Float) (r : ℕ) (D : DepthOk d) (e : half ≡ 2 ^ 
             let R = in_range in
             let H = half_small in
             let l : half ≤ s = b.0 in
-            let q : r ≡ s - half = w (s - half) (omega arith) b.2 in
-            (omega arith, omega arith)
+            (l, omega arith, w (s - half) (omega arith) b.2)
       ]
+
+-- a sum or a difference that is in range
+pub in_range_is : (o : Option ℕ) {P : Type 0} {v s : ℕ} → SomeIff o P v → P → v ≡ s → o ≡ Some s
+in_range_is None h p e = absurd (h p)
+in_range_is (Some a) h p e = ap Some (h.1 ∙ e)
 
 -- ---- luma or chroma, by a test
 pub of_kind : (d : ℕ) (b c : Bool) (s : ℕ) (x : Float) → b ≡ c → Gives d c s x → Gives d b s x

@@ -14,10 +14,3 @@ pub struct Colour {
     pub cb: f32,
     pub cr: f32,
 }
-
-// What the way back finds: the sample that gives the float, or that none does.
-#[derive(Clone, Copy)]
-pub enum Found {
-    Sample(u16),
-    Nothing,
-}

@@ -50,7 +50,8 @@ fn chroma_part(depth: u32, sample: u16) -> f32
     }
 }
 
-// Of a luma or of a chroma sample.
+// Of a luma or of a chroma sample. `chroma` is a bool, as C passes it (tinladle_sample) and as `Gives` and the theorems
+// on the way back tell it.
 pub fn part(depth: u32, chroma: bool, sample: u16) -> f32
     requires depth_ok { DepthOk depth }
     requires sample_bound { sample < 2 ^ depth }
@@ -72,8 +73,8 @@ pub fn colour_of(luma_depth: u32, chroma_depth: u32, y: u16, cb: u16, cr: u16) -
         × Gives chroma_depth true cr result.cr }
 {
     Colour {
-        luma: part(luma_depth, false, y),
-        cb: part(chroma_depth, true, cb),
-        cr: part(chroma_depth, true, cr),
+        luma: luma_part(luma_depth, y),
+        cb: chroma_part(chroma_depth, cb),
+        cr: chroma_part(chroma_depth, cr),
     }
 }

@@ -12,11 +12,10 @@ use Rattle.picture.specs.Ledger.{Verdict, acceptance, first_of}
 use Rattle.picture.specs.Picture.{Picture}
 use Rattle.picture.specs.Scale.{Y, Cb, Cr}
 use Rattle.picture.proofs.Ledger.{none_in, none_out, to_fact, to_test}
-use Rattle.float_samples.specs.declared.Found.{Found}
-use Rattle.float_samples.specs.declared.Found.TheVariants.{Nothing, Sample}
+use Rattle.std.proofs.lemmas.Option.{none-some}
+use Rattle.std.specs.Prelude.{Option, None, Some}
 use Rattle.float_samples.specs.Found.{Finds}
 use Rattle.float_samples.specs.Sample.{DepthOk, Gives}
-use Rattle.float_samples.proofs.Answers.{no_sample_is}
 use Rattle.float_samples.specs.declared.Colour as Declared
 use Rattle.recogniser.specs.declared.Pixel.{Pixel}
 use Rattle.recogniser.specs.declared.Pixel.TheVariants.{Colour, Grey}
@@ -76,10 +75,10 @@ pub depth_not_bad : (depth : ℕ) → DepthOk depth → is_bad depth ≡ false
 depth_not_bad depth ok = none_in (bad_depth depth) (search to_test depth 1)
 
 module _ (depth : ℕ) (chroma : Bool) (x : Float) where
-  pub nothing : (r : Found) → is_bad depth ≡ false → Finds depth chroma x r → r ≡ Nothing
+  pub nothing : (r : Option ℕ) → is_bad depth ≡ false → Finds depth chroma x r → r ≡ None
       → WayBack depth chroma x (refused 15)
-  nothing r ok f e = no_sample ok (λ s g. no_sample_is s (sym e ∙ f.every s g)) refl
+  nothing r ok f e = no_sample ok (λ s g. none-some s (sym e ∙ f.every s g)) refl
 
-  pub found : (r : Found) {s : ℕ} → is_bad depth ≡ false → Finds depth chroma x r → r ≡ Sample s
+  pub found : (r : Option ℕ) {s : ℕ} → is_bad depth ≡ false → Finds depth chroma x r → r ≡ Some s
       → WayBack depth chroma x (returned s)
   found r {s} ok f e = the_sample ok s (f.only s e) refl

@@ -3,7 +3,7 @@ ghost use Rattle.recogniser.specs.WayBack.{WayBack, answer_of};
 
 use crate::Recovered;
 use checks::bad_depth;
-use float_samples::{Found, find_sample};
+use float_samples::find_sample;
 
 // The sample that gives the float at this depth, in luma or in chroma.
 pub fn sample_of(depth: u32, chroma: bool, value: f32) -> Recovered
@@ -14,7 +14,7 @@ pub fn sample_of(depth: u32, chroma: bool, value: f32) -> Recovered
     }
     let found = find_sample(depth, chroma, value);
     match found {
-        Found::Sample(sample) => Recovered::Sample(sample),
-        Found::Nothing => Recovered::NoSample,
+        Some(sample) => Recovered::Sample(sample),
+        None => Recovered::NoSample,
     }
 }

@@ -1,12 +1,8 @@
 -- `over` meets its contract: both casts are exact, and so is the quotient.
 -- Assumes nothing.
 use Rattle.std.proofs.Common.{arith}
-use Rattle.float_samples.proofs.Exact.{power_casts, over_exact}
+use Rattle.float_samples.proofs.Exact.{over_exact}
 use Rattle.float_samples.proofs.parts.over.Goals as goal
-
-pub int_to_float-result-2 : goal.int_to_float-result-2
-int_to_float-result-2 c =
-    power_casts _ _ (omega arith) c.power.ensures
 
 pub returns : goal.returns
 returns c =

@@ -1,28 +1,9 @@
--- `same` meets its contract: where neither is a NaN the patterns are compared.
+-- `same` meets its contract: of two numbers the patterns are compared.
 -- Assumes nothing.
-use Rattle.std.proofs.Common.{not, T, sym, ap, subst, eqb→eq, eq-eqb}
-use mathlib.Core.Bool.{false≢true}
-use lib.Ieee.{Float, binary32, to_bits, is_nan}
-use Rattle.float_samples.proofs.Exact.{no_number, is_number, one_pattern}
+use Rattle.std.proofs.Common.{T, sym, ap, subst, eqb→eq, eq-eqb}
+use lib.Ieee.{binary32, to_bits}
+use Rattle.float_samples.proofs.Exact.{one_pattern}
 use Rattle.float_samples.proofs.way_back.same.Goals as goal
-
-pub returns-then-a : goal.returns-then-a
-returns-then-a c =
-    (λ e. absurd (false≢true e), λ n e. absurd (no_number c.args.a c.if-a.true n))
-
-pub returns-then-b : goal.returns-then-b
-returns-then-b c = (
-  λ e. absurd (false≢true e),
-  λ n e. absurd (no_number _ c.if-b.true (subst (λ (x : Float). T (not (is_nan x))) e n)),
-)
-
-pub float_to_bits-result : goal.float_to_bits-result
-float_to_bits-result c =
-    is_number c.args.a c.if-a.false
-
-pub float_to_bits-result-2 : goal.float_to_bits-result-2
-float_to_bits-result-2 c =
-    is_number c.args.b c.if-b.false
 
 pub returns : goal.returns
 returns c =

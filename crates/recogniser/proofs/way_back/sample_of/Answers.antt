@@ -11,10 +11,10 @@ returns-then-bad_depth c = is_bad_depth (sym c.bad_depth.ensures ∙ c.if-bad_de
 pub find_sample-found-requires : goal.find_sample-found-requires
 find_sample-found-requires c = depth_good _ (sym c.bad_depth.ensures ∙ c.if-bad_depth.false)
 
-pub returns-in-Sample : goal.returns-in-Sample
-returns-in-Sample c =
-    found _ _ _ _ (sym c.bad_depth.ensures ∙ c.if-bad_depth.false) c.find_sample-found.ensures c.in-Sample.is
+pub returns-in-Some : goal.returns-in-Some
+returns-in-Some c =
+    found _ _ _ _ (sym c.bad_depth.ensures ∙ c.if-bad_depth.false) c.find_sample-found.ensures c.in-Some.is
 
-pub returns-in-Nothing : goal.returns-in-Nothing
-returns-in-Nothing c =
-    nothing _ _ _ _ (sym c.bad_depth.ensures ∙ c.if-bad_depth.false) c.find_sample-found.ensures c.in-Nothing.is
+pub returns-in-None : goal.returns-in-None
+returns-in-None c =
+    nothing _ _ _ _ (sym c.bad_depth.ensures ∙ c.if-bad_depth.false) c.find_sample-found.ensures c.in-None.is
