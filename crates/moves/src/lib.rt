@@ -1,14 +1,12 @@
 // How far the samples of one plane are from those of another, and where (document 02, C-23).
 #![tactic(auto)]
 
-ghost use Rattle.std.specs.Prelude.{◌≡◌, min};
+ghost use Rattle.std.specs.Prelude.{◌≡◌};
 ghost use Rattle.ints.specs.Sample.{distance};
 ghost use Rattle.moves.specs.Farthest.{Farthest};
 
-use ints::abs_diff;
-
 // The largest distance, and the first place that has it.
-#[derive(Clone, Copy)]
+#[derive(Clone, Copy, PartialEq, Eq, Debug, Default)]
 pub struct Move {
     pub distance: u32,
     pub place: usize,
@@ -18,13 +16,7 @@ pub struct Move {
 fn apart(a: u16, b: u16) -> u32
     ensures { result ≡ distance a b }
 {
-    abs_diff(a as u32, b as u32)
-}
-
-fn shorter(a: usize, b: usize) -> usize
-    ensures { result ≡ min a b }
-{
-    if a < b { a } else { b }
+    a.abs_diff(b) as u32
 }
 
 // The sample that is farthest from the other list's at its place; of lists of two lengths the places are those of the
@@ -32,20 +24,12 @@ fn shorter(a: usize, b: usize) -> usize
 pub fn farthest_move(before: &[u16], after: &[u16]) -> Move
     ensures { Farthest before.now after.now result }
 {
-    let n = shorter(before.len(), after.len());
-    let mut distance = 0;
-    let mut place = 0;
-    let mut k = 0;
-    while k < n {
-        let d = apart(before[k], after[k]);
-        if distance < d {
-            distance = d;
-            place = k;
+    let mut farthest = Move::default();
+    for place in 0..before.len().min(after.len()) {
+        let distance = apart(before[place], after[place]);
+        if farthest.distance < distance {
+            farthest = Move { distance, place };
         }
-        k += 1;
     }
-    Move {
-        distance: distance,
-        place: place,
-    }
+    farthest
 }

@@ -1,11 +1,6 @@
--- `farthest_move`'s loop: the farthest of the first k places is known. The measure is the places that are left.
-use Rattle.std.proofs.Common.{◌-◌, ◌≤◌}
+-- `farthest_move`'s loop: the farthest of the places so far is known.
 use Rattle.moves.specs.Farthest.{FarthestOf, distances}
 use Rattle.moves.proofs.farthest_move.Given as goal
 
-abbrev pub invariant-loop-k : goal.invariant-loop-k
-invariant-loop-k l =
-    (l.k ≤ l.n) × FarthestOf (distances l.before l.after) l.k (record { distance = l.distance; place = l.place })
-
-abbrev pub decreases-loop-k : goal.decreases-loop-k
-decreases-loop-k l = l.n - l.k
+abbrev pub invariant-loop-place : goal.invariant-loop-place
+invariant-loop-place l = FarthestOf (distances l.before l.after) l.place l.farthest
