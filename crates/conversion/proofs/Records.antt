@@ -4,7 +4,6 @@ use mathlib.Core.Path.{◌≡◌, refl, sym, ap, ap₂, ◌∙◌}
 use mathlib.Core.Bool.{Bool, true, false, cond, not, ◌&&◌, or-false}
 use mathlib.Core.List.{List}
 use mathlib.Core.Logic.{◌⊎◌, inl, inr}
-use native.Mathlib.Nat.{div-one}
 use native.Mathlib.Omega.{arith}
 use borrow.Author.Tests.{eqb-true, eqb-false, lt-ltb, le-ltb, ne_eqb}
 use lib.Dec.{ltb, eqb}
@@ -34,16 +33,6 @@ horizontal_byte byte = sym (strength_is (bit (byte 1) 1) (byte 3))
 
 pub other_byte : (byte : ℕ → ℕ) (b : ℕ) → eqb b 2 ≡ false → eqb b 3 ≡ false → converted_byte byte b ≡ byte b
 other_byte byte b two three = rw (two, three) refl
-
--- the strengths that the code writes
-pub written : (l : List ℕ) (n : ℕ) {a b : ℕ}
-    → a ≡ cond (eqb (cell_byte l n 1 % 2) 1) (cell_byte l n 2) 0
-    → b ≡ cond (eqb (cell_byte l n 1 / 2 % 2) 1) (cell_byte l n 3) 0
-    → set (set l (8 * n + 2) a) (8 * n + 3) b ≡ record_converted l n
-written l n {a} {b} ea eb = ap₂ (λ (x y : ℕ). set (set l (8 * n + 2) x) (8 * n + 3) y) (ea ∙ first) eb
-  where
-    first : cond (eqb (cell_byte l n 1 % 2) 1) (cell_byte l n 2) 0 ≡ kept_byte l n 0 2
-    first = rw (div-one (cell_byte l n 1))
 
 -- ---- the first n records of a list
 

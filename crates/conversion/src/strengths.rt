@@ -23,19 +23,17 @@ fn convert_record(cells: &mut [u8], n: usize)
     cells[at + 3] = horizontal;
 }
 
-// All whole records in place.
+// All whole records in place. They go by number: once `chunks_exact_mut` is over, a proof knows the list's length alone.
 fn convert_records(cells: &mut [u8])
     ensures { cells.new ≡ converted cells.old }
 {
-    let mut n = 0;
-    while n < cells.len() / 8 {
-        convert_record(&mut cells[..], n);
-        n += 1;
+    for n in 0..cells.len() / 8 {
+        convert_record(cells, n);
     }
 }
 
 // The list converted into another of the same length. Where the lengths differ the answer is false, and nothing is
-// written.
+// written. A Result would be no plainer: that refusal has neither kind nor place, and no caller passes it on.
 pub fn convert_cells(cells: &[u8], out: &mut [u8]) -> bool
     ensures value { result ≡ eqb (length cells.now) (length out.old) }
     ensures written { out.new ≡ converted_into cells.now out.old }
@@ -44,6 +42,6 @@ pub fn convert_cells(cells: &[u8], out: &mut [u8]) -> bool
         return false;
     }
     out.copy_from_slice(cells);
-    convert_records(&mut out[..]);
+    convert_records(out);
     true
 }

@@ -1,12 +1,6 @@
--- `convert_records` meets its contract. The loop's invariant: the first n records are converted.
--- Assumes nothing.
-use Prim.Native.Nat.{◌-◌, ◌/◌, ◌≤◌}
-use lib.ListN.{length}
+-- `convert_records`'s loop: the first n records are converted.
 use Rattle.conversion.proofs.Records.{Through}
 use Rattle.conversion.proofs.strengths.convert_records.Given as goal
 
 abbrev pub invariant-loop-n : goal.invariant-loop-n
-invariant-loop-n l = (l.n ≤ length l.initial.cells / 8) × Through l.initial.cells l.n l.cells
-
-abbrev pub decreases-loop-n : goal.decreases-loop-n
-decreases-loop-n l = length l.initial.cells / 8 - l.n
+invariant-loop-n l = Through l.initial.cells l.n l.cells
