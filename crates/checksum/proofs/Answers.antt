@@ -12,10 +12,10 @@ module _ (p : Picture) where
   abbrev told : Verdict → Answer
   told v = record { verdict = v; sums = cond (eqb v.number 0) (plane_sums p) [] }
 
-  pub refused : {v : Verdict} → v ≡ first_of (planes_ledger p) → 0 < v.number
+  pub without_sums : {v : Verdict} → v ≡ first_of (planes_ledger p) → 0 < v.number
       → record { verdict = v; sums = [] } ≡ checksum_answer p
   unfolding checksum_answer
-  refused {v} e h =
+  without_sums {v} e h =
       let no-sum : told v ≡ record { verdict = v; sums = [] } = rw (ne_eqb v.number 0 (omega arith)) in
       sym no-sum ∙ ap told e
 

@@ -1,12 +1,13 @@
 -- What document 02's C-11 answers to a picture's "finished planes", which are the given ones here.
-use Rattle.std.specs.Prelude.{ℕ, cond, List, [], ◌∷◌, ◌==◌}
+use Rattle.std.specs.Prelude.{ℕ, cond, List, [], ◌∷◌, ◌==◌, Result, Ok, Err}
 use Rattle.picture.specs.Causes.{planes_ledger}
 use Rattle.picture.specs.Ledger.{Verdict, acceptance, first_of}
 use Rattle.picture.specs.Picture.{Picture, depth_of, original, plane_height, plane_width}
 use Rattle.picture.specs.Scale.{Component, Y, Cb, Cr}
-use Rattle.ledger.specs.Numbered.{numbered}
+use Rattle.ledger.specs.Numbered.{refused}
+use Rattle.ledger.specs.declared.Refusal.{Refusal}
 use Rattle.checksum.specs.Checksum.{checksum}
-use Rattle.checksum.specs.declared.Checksums.TheVariants.{Refused, One, Three}
+use Rattle.checksum.specs.declared.Checksums.TheVariants.{One, Three}
 use Rattle.checksum.specs.declared.Checksums.{Checksums}
 
 -- a plane's sum, by its own depth and size
@@ -28,8 +29,8 @@ checksum_answer p =
     let v = first_of (planes_ledger p) in
     record { verdict = v; sums = cond (v.number == 0) (plane_sums p) [] }
 
--- the paper's number, place and sums, for every case of the enum
-abbrev pub answer_of : Checksums → Answer
-answer_of (Refused v) = record { verdict = numbered v; sums = [] }
-answer_of (One y) = record { verdict = acceptance; sums = y ∷ [] }
-answer_of (Three y cb cr) = record { verdict = acceptance; sums = y ∷ cb ∷ cr ∷ [] }
+-- the paper's number, place and sums, for every case of the enums
+abbrev pub answer_of : Result Checksums Refusal → Answer
+answer_of (Err r) = record { verdict = refused r; sums = [] }
+answer_of (Ok (One y)) = record { verdict = acceptance; sums = y ∷ [] }
+answer_of (Ok (Three y cb cr)) = record { verdict = acceptance; sums = y ∷ cb ∷ cr ∷ [] }

@@ -1,6 +1,7 @@
 // The picture checksums of a picture's planes, behind their checks.
 ghost use Rattle.std.specs.Prelude.{◌≡◌, ◌*◌, ◌≤◌, length};
-ghost use Rattle.picture.specs.Given.{bare, of_planes, planes_of};
+ghost use Rattle.picture.specs.Given.{bare, of_planes};
+ghost use Rattle.picture.specs.Lent.{planes_lent};
 ghost use Rattle.picture.specs.Picture.{plane_height, plane_width};
 ghost use Rattle.picture.specs.Scale.{Cb};
 ghost use Rattle.checksum.specs.Answer.{answer_of, checksum_answer};
@@ -8,8 +9,8 @@ ghost use Rattle.checksum.specs.Rows.{chroma_sum};
 
 use crate::Checksums;
 use crate::plane::plane_checksum;
-use ledger::{Verdict, check_planes};
-use picture::{LumaColumn, Settings, chroma_rows};
+use ledger::{Refusal, check_planes};
+use picture::{LumaColumn, Planes, Settings, chroma_rows};
 
 // Of a chroma plane, by the settings of its picture.
 fn chroma_checksum(settings: Settings, plane: &[u16]) -> u32
@@ -24,20 +25,22 @@ fn chroma_checksum(settings: Settings, plane: &[u16]) -> u32
 
 // Of the three planes, or of luma alone in a monochrome picture. The settings beside sizes, format and depths play no
 // part.
-pub fn picture_checksums(settings: Settings, y: &[u16], cb: &[u16], cr: &[u16]) -> Checksums
-    ensures { answer_of result ≡ checksum_answer (of_planes settings (planes_of y.now cb.now cr.now)) }
+pub fn picture_checksums(settings: Settings, planes: &Planes<'_>) -> Result<Checksums, Refusal>
+    ensures { answer_of result ≡ checksum_answer (of_planes settings (planes_lent planes.now)) }
 {
-    let verdict = check_planes(settings, y, cb, cr);
-    let Verdict::Accepted = verdict else {
-        return Checksums::Refused(verdict);
-    };
-    let luma = plane_checksum(y, settings.width, settings.height, settings.luma_depth);
+    check_planes(settings, planes)?;
+    let luma = plane_checksum(
+        planes.y,
+        settings.width,
+        settings.height,
+        settings.luma_depth,
+    );
     if settings.chroma_format == 0 {
-        return Checksums::One(luma);
+        return Ok(Checksums::One(luma));
     }
-    Checksums::Three {
+    Ok(Checksums::Three {
         y: luma,
-        cb: chroma_checksum(settings, cb),
-        cr: chroma_checksum(settings, cr),
-    }
+        cb: chroma_checksum(settings, planes.cb),
+        cr: chroma_checksum(settings, planes.cr),
+    })
 }
