@@ -10,9 +10,7 @@ use Rattle.picture.specs.Picture.{Picture, across, depth_of, down, plane_height,
 use Rattle.picture.specs.Plane.{at}
 use Rattle.picture.specs.Scale.{Component, Y, Cb, Cr, chroma_across, chroma_down}
 use Rattle.picture.proofs.Index.{within_rows}
-use Rattle.picture.proofs.Scale.{from_luma_less, from_luma_most, present_across, present_down}
-use Rattle.checks.proofs.Areas.{area_most}
-use Rattle.float_samples.specs.Sample.{DepthOk}
+use Rattle.picture.proofs.Scale.{from_luma_less, present_across, present_down}
 use Rattle.recogniser.specs.Pixel.{under}
 
 -- where the chroma samples under a pixel stand in their planes
@@ -20,12 +18,6 @@ abbrev pub chroma_index : Picture → ℕ → ℕ → ℕ
 chroma_index p column row = down p.settings Cb row * plane_width p Cb + across p.settings Cb column
 
 module _ (p : Picture) (ok : GivenPlanesOk p) where
-  pub luma_depth : DepthOk p.settings.luma_depth
-  luma_depth = record { least = ok.luma_low; most = ok.luma_high }
-
-  pub chroma_depth : DepthOk p.settings.chroma_depth
-  chroma_depth = record { least = ok.chroma_low; most = ok.chroma_high }
-
   -- every sample is in its range
   pub in_range : (c : Component) {k : ℕ} → k < length (plane_of p.originals c)
       → get_or (plane_of p.originals c) k 0 < 2 ^ depth_of p.settings c
@@ -38,11 +30,6 @@ module _ (p : Picture) (ok : GivenPlanesOk p) where
 
   -- the luma sample at a pixel, and the chroma samples under it, stand in their planes
   module _ (column row : ℕ) (inside : (column < p.width) × (row < p.height)) where
-    -- width, column and row are small
-    pub small : (p.width ≤ 8192) × (column ≤ 8192) × (row ≤ 8192)
-    small =
-        (ok.width.most, omega (arith, inside.0, ok.width.most), omega (arith, inside.1, ok.height.most))
-
     pub luma_in : {k : ℕ} → k ≡ row * p.width + column → k < length p.originals.y
     luma_in e =
         let within = within_rows p.width p.height row column inside.1 inside.0 in
@@ -64,17 +51,6 @@ module _ (p : Picture) (ok : GivenPlanesOk p) where
 
       pub cr_in : k < length p.originals.cr
       cr_in = omega (arith, within, ok.originals Cr)
-
-  -- an index into a plane is small
-  module _ {k : ℕ} where
-    pub luma_small : k < length p.originals.y → k < 67108864
-    luma_small h = omega (arith, h, ok.originals Y, area_most ok.width.most ok.height.most)
-
-    pub cb_small : k < length p.originals.cb → k < 67108864
-    cb_small h =
-        let f = p.settings.format in
-        let w = from_luma_most (chroma_across f) ok.width.most in
-        omega (arith, h, ok.originals Cb, area_most w (from_luma_most (chroma_down f) ok.height.most))
 
 -- the samples that the code reads are those under the pixel
 module _ (p : Picture) (column row : ℕ) {k : ℕ} where

@@ -1,14 +1,16 @@
 -- What document 02's C-22 answers to a pixel of "finished planes", which are the given ones here.
-use Rattle.std.specs.Prelude.{ℕ, ◌≡◌, Bool, true, false, cond, List, [], ◌∷◌, ◌++◌, eqb, leb, Float}
+use Rattle.std.specs.Prelude.{ℕ, ◌≡◌, Bool, true, false, cond, List, [], ◌∷◌, ◌++◌, eqb, leb, Float, Result, Ok, Err}
 use Rattle.picture.specs.Causes.{planes_ledger}
 use Rattle.picture.specs.Ledger.{Entry, Verdict, acceptance, entry, first_of, once}
 use Rattle.picture.specs.Picture.{Picture, across, depth_of, down, original}
 use Rattle.picture.specs.Scale.{Component, Y, Cb, Cr}
-use Rattle.ledger.specs.Numbered.{numbered, refusal}
+use Rattle.ledger.specs.Numbered.{refusal, refused}
 use Rattle.float_samples.specs.Fraction.{Exactly, Fraction}
 use Rattle.float_samples.specs.Sample.{fraction_of}
-use Rattle.recogniser.specs.declared.Pixel.TheVariants.{Colour, Grey, Outside, Refused}
+use Rattle.recogniser.specs.declared.Pixel.TheVariants.{Colour, Grey}
 use Rattle.recogniser.specs.declared.Pixel.{Pixel}
+use Rattle.recogniser.specs.declared.PixelRefusal.TheVariants.{Outside, Planes}
+use Rattle.recogniser.specs.declared.PixelRefusal.{PixelRefusal}
 
 -- ---- the parts
 
@@ -64,18 +66,18 @@ pixel_answer p column row =
     let v = first_of (pixel_ledger p column row) in
     record { verdict = v; parts = cond (eqb v.number 0) (pixel_parts p column row) [] }
 
--- the paper's number and place, and the floats, for every case of the enum
-abbrev pub verdict_of : Pixel → Verdict
-verdict_of (Refused v) = numbered v
-verdict_of Outside = refusal 14 0
-verdict_of (Grey luma) = acceptance
-verdict_of (Colour c) = acceptance
+-- the paper's number and place, and the floats, for every case of the enums
+abbrev pub verdict_of : Result Pixel PixelRefusal → Verdict
+verdict_of (Err (Planes r)) = refused r
+verdict_of (Err Outside) = refusal 14 0
+verdict_of (Ok (Grey luma)) = acceptance
+verdict_of (Ok (Colour c)) = acceptance
 
-abbrev pub floats_of : Pixel → List Float
-floats_of (Refused v) = []
-floats_of Outside = []
-floats_of (Grey luma) = luma ∷ []
-floats_of (Colour c) = c.luma ∷ c.cb ∷ c.cr ∷ []
+abbrev pub floats_of : Result Pixel PixelRefusal → List Float
+floats_of (Err (Planes r)) = []
+floats_of (Err Outside) = []
+floats_of (Ok (Grey luma)) = luma ∷ []
+floats_of (Ok (Colour c)) = c.luma ∷ c.cb ∷ c.cr ∷ []
 
 -- as many floats as fractions, and each is exactly its fraction
 abbrev pub AllExactly : List Float → List Fraction → Type 0
@@ -84,6 +86,6 @@ AllExactly [] (f ∷ fs) = ⊥
 AllExactly (x ∷ xs) [] = ⊥
 AllExactly (x ∷ xs) (f ∷ fs) = Exactly x f.n f.depth × AllExactly xs fs
 
-pub record Answered (r : Pixel) (a : Answer) : Type 0 where
+pub record Answered (r : Result Pixel PixelRefusal) (a : Answer) : Type 0 where
   pub verdict_is : verdict_of r ≡ a.verdict
   pub parts_are : AllExactly (floats_of r) a.parts

@@ -1,16 +1,17 @@
 // A pixel of a picture's planes, behind their checks.
-ghost use Rattle.std.specs.Prelude.{◌+◌, ◌*◌, ◌≤◌, ◌<◌, ◌≡◌};
+ghost use Rattle.std.specs.Prelude.{Ok, ◌+◌, ◌*◌, ◌≤◌, ◌<◌, ◌≡◌};
 ghost use Rattle.picture.specs.Accepted.{GivenPlanesOk};
-ghost use Rattle.picture.specs.Given.{bare, of_planes, settings_of, planes_of};
+ghost use Rattle.picture.specs.Given.{bare, of_planes, settings_of};
 ghost use Rattle.picture.specs.Ledger.{any_of};
+ghost use Rattle.picture.specs.Lent.{planes_lent};
 ghost use Rattle.picture.specs.Picture.{across, down, plane_width};
 ghost use Rattle.picture.specs.Scale.{Cb, chroma_across, from_luma};
 ghost use Rattle.recogniser.specs.Pixel.{Answered, accepted, outside, pixel_answer};
 
-use crate::Pixel;
+use crate::{Pixel, PixelRefusal};
 use float_samples::{colour_of, part};
-use ledger::{Verdict, check_planes};
-use picture::{LumaColumn, Settings, chroma_rows};
+use ledger::check_planes;
+use picture::{LumaColumn, Planes, Settings, chroma_rows};
 
 // 14. The pixel lies outside the picture.
 fn is_outside(settings: Settings, column: u32, row: u32) -> bool
@@ -48,19 +49,12 @@ fn chroma_index(settings: Settings, column: u32, row: u32) -> usize
 }
 
 // A pixel inside planes that passed their checks.
-fn pixel_inside(
-    settings: Settings,
-    y: &[u16],
-    cb: &[u16],
-    cr: &[u16],
-    column: u32,
-    row: u32,
-) -> Pixel
-    requires given_planes_ok { GivenPlanesOk (of_planes settings (planes_of y.now cb.now cr.now)) }
+fn pixel_inside(settings: Settings, planes: &Planes<'_>, column: u32, row: u32) -> Pixel
+    requires given_planes_ok { GivenPlanesOk (of_planes settings (planes_lent planes.now)) }
     requires inside { (column < settings.width) × (row < settings.height) }
-    ensures { Answered result (accepted (of_planes settings (planes_of y.now cb.now cr.now)) column row) }
+    ensures { Answered (Ok result) (accepted (of_planes settings (planes_lent planes.now)) column row) }
 {
-    let luma = y[index_of(settings.width as usize, column as usize, row as usize)];
+    let luma = planes.y[index_of(settings.width as usize, column as usize, row as usize)];
     if settings.chroma_format == 0 {
         return Pixel::Grey(part(settings.luma_depth, false, luma));
     }
@@ -69,8 +63,8 @@ fn pixel_inside(
         settings.luma_depth,
         settings.chroma_depth,
         luma,
-        cb[index],
-        cr[index],
+        planes.cb[index],
+        planes.cr[index],
     ))
 }
 
@@ -78,20 +72,15 @@ fn pixel_inside(
 // no part.
 pub fn pixel_at(
     settings: Settings,
-    y: &[u16],
-    cb: &[u16],
-    cr: &[u16],
+    planes: &Planes<'_>,
     column: u32,
     row: u32,
-) -> Pixel
-    ensures { Answered result (pixel_answer (of_planes settings (planes_of y.now cb.now cr.now)) column row) }
+) -> Result<Pixel, PixelRefusal>
+    ensures { Answered result (pixel_answer (of_planes settings (planes_lent planes.now)) column row) }
 {
-    let verdict = check_planes(settings, y, cb, cr);
-    let Verdict::Accepted = verdict else {
-        return Pixel::Refused(verdict);
-    };
+    check_planes(settings, planes)?;
     if is_outside(settings, column, row) {
-        return Pixel::Outside;
+        return Err(PixelRefusal::Outside);
     }
-    pixel_inside(settings, y, cb, cr, column, row)
+    Ok(pixel_inside(settings, planes, column, row))
 }

@@ -1,20 +1,15 @@
--- `sample_of` meets its contract: a depth out of range is the answer, else what was found.
+-- `sample_of` meets its contract: a depth in range is answered by what was found.
 -- Assumes nothing.
-use mathlib.Core.Path.{refl, sym, ◌∙◌}
-use Rattle.recogniser.specs.WayBack.{is_bad_depth}
-use Rattle.recogniser.proofs.Answers.{depth_good, found, nothing}
+use Rattle.std.proofs.Common.{ℕ, sym, ◌∙◌, subst}
+use Rattle.std.specs.Prelude.{Result}
+use Rattle.recogniser.specs.declared.SampleRefusal.{SampleRefusal}
+use Rattle.recogniser.specs.WayBack.{WayBack, answer_of}
+use Rattle.recogniser.proofs.Answers.{by_found}
 use Rattle.recogniser.proofs.way_back.sample_of.Goals as goal
 
-pub returns-then-bad_depth : goal.returns-then-bad_depth
-returns-then-bad_depth c = is_bad_depth (sym c.bad_depth.ensures ∙ c.if-bad_depth.true) refl
-
-pub find_sample-found-requires : goal.find_sample-found-requires
-find_sample-found-requires c = depth_good _ (sym c.bad_depth.ensures ∙ c.if-bad_depth.false)
-
-pub returns-in-Some : goal.returns-in-Some
-returns-in-Some c =
-    found _ _ _ _ (sym c.bad_depth.ensures ∙ c.if-bad_depth.false) c.find_sample-found.ensures c.in-Some.is
-
-pub returns-in-None : goal.returns-in-None
-returns-in-None c =
-    nothing _ _ _ _ (sym c.bad_depth.ensures ∙ c.if-bad_depth.false) c.find_sample-found.ensures c.in-None.is
+pub returns : goal.returns
+returns c =
+    let a = c.args in
+    subst (λ (r : Result ℕ SampleRefusal). WayBack a.depth a.chroma a.value (answer_of r)) (sym c.ok_or.ensures.value)
+    (by_found a.depth a.chroma a.value c.find_sample.result (sym c.bad_depth.ensures ∙ c.if-bad_depth.false)
+    c.find_sample.ensures)
