@@ -1,2 +1,3 @@
+pub mod AnyAbove
 pub mod Cases
 pub mod Refused

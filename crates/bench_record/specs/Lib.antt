@@ -1,2 +1,3 @@
+pub mod Numbered
 pub mod Record
 pub mod Refusal

@@ -1,6 +1,6 @@
 -- Document 01, 'Segment bench': the bytes and the samples of one record. Each definition has the sentence that it is
 -- written from.
-use Rattle.std.specs.Prelude.{ℕ, ◌+◌, ◌*◌, List, get_or}
+use Rattle.std.specs.Prelude.{ℕ, ◌+◌, ◌*◌, List, [], ◌∷◌, get_or}
 use Rattle.lines.specs.declared.Line.{Line}
 use Rattle.bench_record.specs.declared.fields.Head.{Head}
 
@@ -37,3 +37,7 @@ line_of_record r j =
       q2 = sample_at r (8 + 16 * j + 12);
       q3 = sample_at r (8 + 16 * j + 14);
     }
+
+-- the four lines
+abbrev pub lines_of : List ℕ → List Line
+lines_of r = line_of_record r 0 ∷ line_of_record r 1 ∷ line_of_record r 2 ∷ line_of_record r 3 ∷ []

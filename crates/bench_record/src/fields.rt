@@ -1,6 +1,6 @@
-// The bytes and the samples of a record, of which there are 72 bytes.
-ghost use Rattle.std.specs.Prelude.{◌≡◌, ◌+◌, ◌*◌, ◌≤◌, ◌<◌, length};
-ghost use Rattle.bench_record.specs.Record.{head_of, sample_at, line_of_record};
+// The bytes and the samples of a record.
+ghost use Rattle.std.specs.Prelude.{◌≡◌, ◌+◌, ◌*◌, ◌≤◌, ◌<◌, length, MatchOption};
+ghost use Rattle.bench_record.specs.Record.{head_of, sample_at, line_of_record, lines_of};
 
 use lines::Line;
 
@@ -17,53 +17,69 @@ pub struct Head {
     pub zero7: u8,
 }
 
-pub fn head_of(input: &[u8]) -> Head
-    requires { 72 ≤ length input.now }
-    ensures { result ≡ head_of input.now }
-{
-    Head {
-        depth: input[0],
-        bs: input[1],
-        qpp: input[2],
-        qpq: input[3],
-        beta: input[4],
-        tc: input[5],
-        zero6: input[6],
-        zero7: input[7],
-    }
+// A record that is lent to be read: the first 72 of these bytes.
+#[derive(Clone, Copy)]
+pub struct Record<'a> {
+    pub bytes: &'a [u8],
+    ghost whole: { 72 ≤ length bytes.now },
 }
 
-// A 16-bit number of its two bytes.
-fn joined(low: u8, high: u8) -> u16
-    ensures { result ≡ low + 256 * high }
-{
-    (low as u16) + 256 * (high as u16)
+impl<'a> Record<'a> {
+    // The record that these bytes begin with, where there are so many.
+    pub fn first(input: &'a [u8]) -> Option<Record<'a>>
+        ensures { MatchOption result (length input.now < 72) (λ r. (72 ≤ length input.now) × (r.bytes.now ≡ input.now)) }
+    {
+        if input.len() < 72 {
+            return None;
+        }
+        Some(Record { bytes: input })
+    }
+
+    pub fn head(self) -> Head
+        ensures { result ≡ head_of self.entry.bytes.now }
+    {
+        let bytes = self.bytes;
+        Head {
+            depth: bytes[0],
+            bs: bytes[1],
+            qpp: bytes[2],
+            qpq: bytes[3],
+            beta: bytes[4],
+            tc: bytes[5],
+            zero6: bytes[6],
+            zero7: bytes[7],
+        }
+    }
+
+    pub fn lines(self) -> [Line; 4]
+        ensures { result ≡ lines_of self.entry.bytes.now }
+    {
+        [self.line(0), self.line(1), self.line(2), self.line(3)]
+    }
+
+    // Line j of the four.
+    fn line(self, j: usize) -> Line
+        requires { j < 4 }
+        ensures { result ≡ line_of_record self.entry.bytes.now j }
+    {
+        let at = 8 + 16 * j;
+        Line {
+            p3: sample(self.bytes, at),
+            p2: sample(self.bytes, at + 2),
+            p1: sample(self.bytes, at + 4),
+            p0: sample(self.bytes, at + 6),
+            q0: sample(self.bytes, at + 8),
+            q1: sample(self.bytes, at + 10),
+            q2: sample(self.bytes, at + 12),
+            q3: sample(self.bytes, at + 14),
+        }
+    }
 }
 
 // The sample at byte `at`: the low byte comes first.
-fn sample(input: &[u8], at: usize) -> u16
-    requires { at + 1 < length input.now }
-    ensures { result ≡ sample_at input.now at }
+fn sample(bytes: &[u8], at: usize) -> u16
+    requires { at + 1 < length bytes.now }
+    ensures { result ≡ sample_at bytes.now at }
 {
-    let low = input[at];
-    let high = input[at + 1];
-    joined(low, high)
-}
-
-// Line j of the four.
-pub fn line_of_record(input: &[u8], j: usize) -> Line
-    requires { (j < 4) × (72 ≤ length input.now) }
-    ensures { result ≡ line_of_record input.now j }
-{
-    let at = 8 + 16 * j;
-    Line {
-        p3: sample(input, at),
-        p2: sample(input, at + 2),
-        p1: sample(input, at + 4),
-        p0: sample(input, at + 6),
-        q0: sample(input, at + 8),
-        q1: sample(input, at + 10),
-        q2: sample(input, at + 12),
-        q3: sample(input, at + 14),
-    }
+    u16::from_le_bytes([bytes[at], bytes[at + 1]])
 }

@@ -4,5 +4,5 @@
 mod fields;
 mod refusal;
 
-pub use fields::{Head, head_of, line_of_record};
-pub use refusal::refusal_of;
+pub use fields::{Head, Record};
+pub use refusal::RecordRefusal;

@@ -1,29 +1,52 @@
 // Why a record is refused: the checks in their order, the first that applies decides.
-ghost use Rattle.std.specs.Prelude.{◌≡◌, ◌≤◌, length};
+ghost use Rattle.std.specs.Prelude.{◌≡◌, ◌≤◌, nat_lt};
+ghost use Rattle.std.specs.List.{list_any};
 ghost use Rattle.bench_record.specs.Refusal.{
   depth_bad,
   offsets_bad,
   qp_bad,
   others_bad,
-  side_above,
   line_above,
   samples_above,
   refusal_of,
 };
+ghost use Rattle.bench_record.specs.Numbered.{number_of, numbered};
 
-use crate::fields::{Head, head_of, line_of_record};
+use crate::fields::{Head, Record};
 use lines::Line;
+
+#[derive(Clone, Copy, PartialEq, Eq, Debug)]
+pub enum RecordRefusal {
+    Depth,
+    Offsets,
+    Others,
+    Sample,
+}
+
+impl RecordRefusal {
+    // The number that is printed.
+    pub fn number(self) -> u16
+        ensures { result ≡ number_of self }
+    {
+        match self {
+            RecordRefusal::Depth => 3,
+            RecordRefusal::Offsets => 7,
+            RecordRefusal::Others => 9,
+            RecordRefusal::Sample => 10,
+        }
+    }
+}
 
 fn depth_bad(depth: u8) -> bool
     ensures { result ≡ depth_bad depth }
 {
-    (depth < 8) | (16 < depth)
+    depth < 8 || 16 < depth
 }
 
 fn offsets_bad(beta: u8, tc: u8) -> bool
     ensures { result ≡ offsets_bad beta tc }
 {
-    (12 < beta) | (12 < tc)
+    12 < beta || 12 < tc
 }
 
 // A QP runs from -6 * (depth - 8) to 51.
@@ -31,7 +54,7 @@ fn qp_bad(depth: u8, qp: u8) -> bool
     requires { (8 ≤ depth) × (depth ≤ 16) }
     ensures { result ≡ qp_bad depth qp }
 {
-    (qp < 64 - 6 * (depth - 8)) | (64 + 51 < qp)
+    qp < 64 - 6 * (depth - 8) || 64 + 51 < qp
 }
 
 // The bytes that are neither depth nor offset: bS, both QPs and the two zeros.
@@ -44,47 +67,48 @@ fn others_bad(h: Head) -> bool
     (2 < h.bs) | p | q | (0 < h.zero6) | (0 < h.zero7)
 }
 
-// Whether one of the four samples of a side is above the largest.
-fn side_above(largest: u16, a: u16, b: u16, c: u16, d: u16) -> bool
-    ensures { result ≡ side_above largest a b c d }
+fn one_above(largest: u16, samples: &[u16]) -> bool
+    ensures { result ≡ list_any (nat_lt largest) samples.now }
 {
-    (largest < a) | (largest < b) | (largest < c) | (largest < d)
+    samples.iter().any(|s| largest < *s)
 }
 
 fn line_above(largest: u16, l: Line) -> bool
     ensures { result ≡ line_above largest l }
 {
-    side_above(largest, l.p3, l.p2, l.p1, l.p0) | side_above(largest, l.q0, l.q1, l.q2, l.q3)
+    one_above(largest, &[l.p3, l.p2, l.p1, l.p0, l.q0, l.q1, l.q2, l.q3])
 }
 
-fn samples_above(largest: u16, input: &[u8]) -> bool
-    requires { 72 ≤ length input.now }
-    ensures { result ≡ samples_above largest input.now }
+fn one_line_above(largest: u16, lines: &[Line]) -> bool
+    ensures { result ≡ list_any (line_above largest) lines.now }
 {
-    let first = line_above(largest, line_of_record(input, 0));
-    let second = line_above(largest, line_of_record(input, 1));
-    let third = line_above(largest, line_of_record(input, 2));
-    let fourth = line_above(largest, line_of_record(input, 3));
-    first | second | third | fourth
+    lines.iter().any(|l| line_above(largest, *l))
 }
 
-// The number of the first cause, or 0.
-pub fn refusal_of(input: &[u8]) -> u16
-    requires { 72 ≤ length input.now }
-    ensures { result ≡ refusal_of input.now }
-{
-    let h = head_of(input);
-    if depth_bad(h.depth) {
-        return 3;
+impl Record<'_> {
+    // The first cause, if there is one.
+    pub fn check(self) -> Result<(), RecordRefusal>
+        ensures { numbered result ≡ refusal_of self.entry.bytes.now }
+    {
+        let h = self.head();
+        if depth_bad(h.depth) {
+            return Err(RecordRefusal::Depth);
+        }
+        if offsets_bad(h.beta, h.tc) {
+            return Err(RecordRefusal::Offsets);
+        }
+        if others_bad(h) {
+            return Err(RecordRefusal::Others);
+        }
+        if self.samples_above(ints::largest_at(h.depth as u32)) {
+            return Err(RecordRefusal::Sample);
+        }
+        Ok(())
     }
-    if offsets_bad(h.beta, h.tc) {
-        return 7;
+
+    fn samples_above(self, largest: u16) -> bool
+        ensures { result ≡ samples_above largest self.entry.bytes.now }
+    {
+        one_line_above(largest, &self.lines())
     }
-    if others_bad(h) {
-        return 9;
-    }
-    if samples_above(ints::largest_at(h.depth as u32), input) {
-        return 10;
-    }
-    0
 }

@@ -1,58 +1,87 @@
-// Text in a buffer that the caller lends: each function puts bytes at `at` and answers the place past them, where the
-// next function goes on.
+// Text in a buffer of fixed size, put together from its front: bytes, and numbers in decimal.
 #![tactic(auto)]
 
-ghost use Rattle.std.specs.Prelude.{◌+◌, ◌≤◌, ◌<◌, [], ◌∷◌, ◌++◌, length};
-ghost use Rattle.text.specs.Text.{Puts, decimal};
+ghost use Rattle.std.specs.Prelude.{◌≡◌, ◌+◌, ◌≤◌, ◌<◌, [], ◌∷◌, ◌++◌, length};
+ghost use Rattle.text.specs.Text.{decimal};
 
-pub fn put_byte(out: &mut [u8], at: usize, b: u8) -> usize
-    requires { at < length out.old }
-    ensures { Puts out.old out.new at (b ∷ []) result }
-{
-    out[at] = b;
-    at + 1
+use std::marker::Model;
+
+// The text has N bytes at most. What stands in the buffer past its length is no part of it.
+pub struct Text<const N: usize> {
+    buffer: [u8; N],
+    len: usize,
 }
 
-pub fn put_bytes(out: &mut [u8], at: usize, s: &[u8]) -> usize
-    requires { at + length s.now ≤ length out.old }
-    ensures { Puts out.old out.new at s.now result }
-{
-    let mut i = 0;
-    while i < s.len() {
-        out[at + i] = s[i];
-        i += 1;
+impl<const N: usize> Model for Text<N> {
+    ghost use Rattle.std.specs.Prelude.{◌≡◌, ◌≤◌, ℕ, List, length, take};
+
+    ghost Value = { List ℕ };
+
+    ghost view = { λ t. take t.len t.buffer };
+
+    ghost invariant = { λ t. (t.len ≤ N) × (length t.buffer ≡ N) };
+}
+
+impl<const N: usize> Text<N> {
+    pub fn new() -> Text<N>
+        ensures { result ≡ [] }
+    {
+        Text {
+            buffer: [0; N],
+            len: 0,
+        }
     }
-    at + i
-}
 
-// A u16 has five digits at most.
-pub fn put_number(out: &mut [u8], at: usize, n: u16) -> usize
-    requires { at + 5 ≤ length out.old }
-    ensures puts { Puts out.old out.new at (decimal n) result }
-    ensures upper_bound { result ≤ at + 5 }
-{
-    put_digits(out, at, n)
-}
+    pub fn bytes(&self) -> &[u8]
+        ensures { result.now ≡ self.now }
+    {
+        &self.buffer[..self.len]
+    }
 
-// A number and the byte after it.
-pub fn put_number_then(out: &mut [u8], at: usize, n: u16, after: u8) -> usize
-    requires { at + 6 ≤ length out.old }
-    ensures puts { Puts out.old out.new at (decimal n ++ (after ∷ [])) result }
-    ensures upper_bound { result ≤ at + 6 }
-{
-    let next = put_number(out, at, n);
-    put_byte(out, next, after)
-}
+    pub fn push_byte(&mut self, b: u8)
+        requires { length self.old < N }
+        ensures { self.new ≡ self.old ++ (b ∷ []) }
+    {
+        self.buffer[self.len] = b;
+        self.len += 1;
+    }
 
-// Asks room for n's own digits and no more, so that the call for the digits before the last can be met.
-fn put_digits(out: &mut [u8], at: usize, n: u16) -> usize
-    requires { at + length (decimal n) ≤ length out.old }
-    ensures { Puts out.old out.new at (decimal n) result }
-{
-    if n < 10 {
-        put_byte(out, at, 48 + n as u8)
-    } else {
-        let last = put_digits(out, at, n / 10);
-        put_byte(out, last, 48 + (n % 10) as u8)
+    pub fn push_bytes(&mut self, bytes: &[u8])
+        requires { length self.old + length bytes.now ≤ N }
+        ensures { self.new ≡ self.old ++ bytes.now }
+    {
+        for b in bytes {
+            self.push_byte(*b);
+        }
+    }
+
+    // A u16 has five digits at most.
+    pub fn push_number(&mut self, n: u16)
+        requires { length self.old + 5 ≤ N }
+        ensures puts { self.new ≡ self.old ++ decimal n }
+        ensures upper_bound { length self.new ≤ length self.old + 5 }
+    {
+        self.push_digits(n);
+    }
+
+    // A number and the byte after it.
+    pub fn push_number_then(&mut self, n: u16, after: u8)
+        requires { length self.old + 6 ≤ N }
+        ensures puts { self.new ≡ self.old ++ (decimal n ++ (after ∷ [])) }
+        ensures upper_bound { length self.new ≤ length self.old + 6 }
+    {
+        self.push_number(n);
+        self.push_byte(after);
+    }
+
+    // Asks room for n's own digits and no more, so that the call for the digits before the last can be met.
+    fn push_digits(&mut self, n: u16)
+        requires { length self.old + length (decimal n) ≤ N }
+        ensures { self.new ≡ self.old ++ decimal n }
+    {
+        if n >= 10 {
+            self.push_digits(n / 10);
+        }
+        self.push_byte(b'0' + (n % 10) as u8);
     }
 }

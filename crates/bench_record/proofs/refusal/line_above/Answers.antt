@@ -1,11 +1,8 @@
--- `line_above` meets its contract: the flag of the P side or that of the Q side.
+-- `line_above` meets its contract: the eight tests are the definition's.
 -- Assumes nothing.
-use mathlib.Core.Path.{ap₂}
-use mathlib.Core.Bool.{◌||◌}
-use Rattle.bench_record.specs.Refusal.{line_above}
+use Rattle.std.proofs.Common.{◌∙◌}
+use Rattle.bench_record.proofs.AnyAbove.{line_any}
 use Rattle.bench_record.proofs.refusal.line_above.Goals as goal
 
 pub returns : goal.returns
-unfolding line_above
-returns c =
-    ap₂ ◌||◌ c.side_above.ensures c.side_above-2.ensures
+returns c = c.one_above.ensures ∙ line_any c.args.largest c.args.l

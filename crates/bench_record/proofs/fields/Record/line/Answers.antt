@@ -1,7 +1,7 @@
--- `line_of_record` meets its contract: each field is what its `sample` ensures.
+-- `line` meets its contract: each field is what its `sample` ensures.
 -- Assumes nothing.
 use Rattle.bench_record.specs.Record.{line_of_record}
-use Rattle.bench_record.proofs.fields.line_of_record.Goals as goal
+use Rattle.bench_record.proofs.fields.Record.line.Goals as goal
 
 pub returns : goal.returns
 unfolding line_of_record
