@@ -1,13 +1,15 @@
 -- What the proofs of the functions rest on, over plain variables: the thresholds, the decision, and the texts that
 -- calls put together.
 -- Assumes nothing.
-use Prim.Native.Nat.{ℕ, ◌≤◌}
+use Prim.Native.Nat.{ℕ, ◌≤◌, ◌<◌}
 use mathlib.Core.Path.{◌≡◌, refl, sym, ◌∙◌}
 use mathlib.Core.Bool.{Bool, true, false, cond, ◌||◌}
-use mathlib.Core.List.{List, ◌++◌}
+use mathlib.Core.List.{List, [], ◌++◌, append-nil, map}
+use Rattle.std.specs.List.{flat_map}
 use native.Mathlib.Omega.{arith}
 use lib.Dec.{eqb}
-use borrow.Author.Tests.{eq-eqb, ne_eqb}
+use lib.ListN.{length}
+use borrow.Author.Tests.{eq-eqb, ne_eqb, lt-ltb, le-ltb}
 use Rattle.ints.specs.Int.{◌⊖◌}
 use Rattle.ints.specs.Sample.{largest_at}
 use Rattle.thresholds.specs.Luma.{average_qp, luma_beta}
@@ -18,12 +20,15 @@ use Rattle.lines.specs.Decision.{Decision, decision}
 use Rattle.lines.specs.Luma.{luma_line}
 use Rattle.lines.proofs.Answer.{case_filters, case_keeps, decision_known}
 use Rattle.bench_record.specs.declared.fields.Head.{Head}
-use Rattle.bench_record.specs.Record.{head_of, line_of_record}
+use Rattle.bench_record.specs.Record.{head_of, line_of_record, lines_of}
 use Rattle.bench_record.specs.Refusal.{refusal_of}
-use Rattle.bench_lines.specs.Lines.{first_text, lines_text, refused_text}
+use Rattle.bench_record.specs.declared.refusal.RecordRefusal.{RecordRefusal}
+use Rattle.bench_record.specs.declared.refusal.RecordRefusal.TheVariants.{Depth, Offsets, Others, Sample}
+use Rattle.bench_record.specs.Numbered.{number_of}
+use Rattle.bench_lines.specs.Lines.{first_text, line_text, lines_text, refused_text}
 use Rattle.bench.specs.declared.segment.Thresholds.{Thresholds}
 use Rattle.bench.specs.Bench.{record_qp, record_beta, record_tc, printed_tc, no_filter, record_decision}
-use Rattle.bench.specs.Bench.{segment_text, record_text}
+use Rattle.bench.specs.Bench.{segment_text, record_text, short_text, bench_text}
 use Rattle.bench.specs.Code.{tc_or_zero, thresholds_of, decision_or_skip}
 
 -- ---- the thresholds, of what the calls gave
@@ -81,26 +86,47 @@ filtered_is h k m largest l =
 abbrev coded : LumaAnswer → Thresholds → Line → Line
 coded d t l = luma_line (values_of d.decision) t.largest t.tc l
 
-pub segment_made : (r : List ℕ) {h : Head} {t : Thresholds} {l0 l1 l2 l3 f0 f1 f2 f3 : Line} {d : LumaAnswer}
-    → h ≡ head_of r → t ≡ thresholds_of h
-    → l0 ≡ line_of_record r 0 → l1 ≡ line_of_record r 1 → l2 ≡ line_of_record r 2 → l3 ≡ line_of_record r 3
-    → d ≡ answer_of (decision_or_skip t.beta t.tc l0 l3)
-    → f0 ≡ coded d t l0 → f1 ≡ coded d t l1 → f2 ≡ coded d t l2 → f3 ≡ coded d t l3
-    → first_text (values_of d.decision).d_e t.tc d.counts ++ lines_text f0 f1 f2 f3 ≡ segment_text r
-unfolding segment_text
-segment_made r eh et e0 e1 e2 e3 ed g0 g1 g2 g3 =
+pub segment_made : (r : List ℕ) {h : Head} {t : Thresholds} {ls fs : List Line} {d : LumaAnswer}
+    → h ≡ head_of r → t ≡ thresholds_of h → ls ≡ lines_of r
+    → d ≡ answer_of (decision_or_skip t.beta t.tc (line_of_record r 0) (line_of_record r 3))
+    → fs ≡ map (coded d t) ls
+    → first_text (values_of d.decision).d_e t.tc d.counts ++ flat_map line_text fs ≡ segment_text r
+unfolding segment_text lines_text
+segment_made r eh et el ed ef =
     let h : Head = head_of r in
     let k : Line = line_of_record r 0 in
     let m : Line = line_of_record r 3 in
-    rw (g0, g1, g2, g3, ed, et, e0, e1, e2, e3, eh, decided_is h k m)
-    (simp (case_keeps (record_decision h k m) (decision_of_known h k m), filtered_is h k m) refl)
+    rw (ef, ed, et, el, eh, decided_is h k m)
+    (simp (case_keeps (record_decision h k m) (decision_of_known h k m), filtered_is h k m, append-nil) refl)
 
 -- ---- the text of a record
 
-pub text_accepted : (r : List ℕ) {n : ℕ} → n ≡ refusal_of r → n ≡ 0 → segment_text r ≡ record_text r
+pub text_accepted : (r : List ℕ) → 0 ≡ refusal_of r → segment_text r ≡ record_text r
 unfolding record_text
-text_accepted r e z = simp (eq-eqb (refusal_of r) 0 (sym e ∙ z))
+text_accepted r e = simp (eq-eqb (refusal_of r) 0 (sym e))
 
-pub text_refused : (r : List ℕ) {n : ℕ} → n ≡ refusal_of r → (n ≡ 0 → ⊥) → refused_text n ≡ record_text r
+pub text_refused : (r : List ℕ) (refusal : RecordRefusal) {n : ℕ} → n ≡ number_of refusal → number_of refusal ≡ refusal_of r
+    → refused_text n ≡ record_text r
 unfolding record_text
-text_refused r e z = simp (ne_eqb (refusal_of r) 0 (λ q. z (e ∙ q)), e)
+text_refused r refusal en e =
+    simp (ne_eqb (refusal_of r) 0 (λ z. some refusal (e ∙ z)), en ∙ e)
+  where
+    some : (refusal : RecordRefusal) → number_of refusal ≡ 0 → ⊥
+    some Depth z = omega (arith, z)
+    some Offsets z = omega (arith, z)
+    some Others z = omega (arith, z)
+    some Sample z = omega (arith, z)
+
+-- ---- the text of what was left to read
+
+pub text_whole : (r : List ℕ) → 72 ≤ length r → record_text r ≡ bench_text r
+unfolding bench_text
+text_whole r h = simp (ne_eqb (length r) 0 (λ z. omega (arith, h, z)), le-ltb (length r) 72 h)
+
+pub text_short : (r : List ℕ) → length r < 72 → eqb (length r) 0 ≡ false → short_text ≡ bench_text r
+unfolding bench_text
+text_short r h e = simp (e, lt-ltb (length r) 72 h)
+
+pub text_none : (r : List ℕ) → eqb (length r) 0 ≡ true → [] ≡ bench_text r
+unfolding bench_text
+text_none r e = simp e

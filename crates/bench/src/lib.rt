@@ -3,45 +3,34 @@
 
 mod segment;
 
-ghost use Rattle.std.specs.Prelude.{◌≤◌, length};
-ghost use Rattle.text.specs.Text.{Puts};
+ghost use Rattle.std.specs.Prelude.{◌≡◌, ◌≤◌, ◌+◌, ◌++◌, length};
 ghost use Rattle.bench.specs.Bench.{bench_text, record_text};
 
+use bench_record::Record;
 use segment::put_segment;
+use text::Text;
 
-// Puts the text of a record at the start of `out`, and answers its length; none is longer than 25 + 4 * 48 bytes.
+// The text of a record; none is longer than 25 + 4 * 48 bytes.
 // The input is what was left to read. Where that is more than a record, the first one counts.
-pub fn bench_text(input: &[u8], out: &mut [u8; 256]) -> usize
-    ensures puts { Puts out.old out.new 0 (bench_text input.now) result }
-    ensures upper_bound { result ≤ 256 }
+pub fn bench_text(input: &[u8]) -> Text<256>
+    ensures { result ≡ bench_text input.now }
 {
-    put_text(input, out)
-}
-
-fn put_text(input: &[u8], out: &mut [u8]) -> usize
-    requires { 256 ≤ length out.old }
-    ensures puts { Puts out.old out.new 0 (bench_text input.now) result }
-    ensures upper_bound { result ≤ 256 }
-{
-    if input.len() == 0 {
-        return 0;
+    let mut text = Text::new();
+    if let Some(r) = Record::first(input) {
+        put_record(&mut text, r);
+    } else if !input.is_empty() {
+        text.push_bytes(b"short\n");
     }
-    if input.len() < 72 {
-        return text::put_bytes(out, 0, b"short\n");
-    }
-    put_record(input, out)
+    text
 }
 
 // A whole record: its refusal, or its segment.
-fn put_record(input: &[u8], out: &mut [u8]) -> usize
-    requires { (72 ≤ length input.now) × (256 ≤ length out.old) }
-    ensures puts { Puts out.old out.new 0 (record_text input.now) result }
-    ensures upper_bound { result ≤ 256 }
+fn put_record(out: &mut Text<256>, r: Record<'_>)
+    requires { length out.old + 217 ≤ 256 }
+    ensures { out.new ≡ out.old ++ record_text r.entry.bytes.now }
 {
-    let n = bench_record::refusal_of(input);
-    if n == 0 {
-        put_segment(input, out)
-    } else {
-        bench_lines::put_refusal(out, 0, n)
+    match r.check() {
+        Ok(()) => put_segment(out, r),
+        Err(refusal) => bench_lines::put_refusal(out, refusal.number()),
     }
 }

@@ -1,6 +1,5 @@
 // The segment of a record that is not refused: thresholds, decision, the lines after filtering, and their text.
-ghost use Rattle.std.specs.Prelude.{◌≡◌, ◌+◌, ◌≤◌, length};
-ghost use Rattle.text.specs.Text.{Puts};
+ghost use Rattle.std.specs.Prelude.{◌≡◌, ◌+◌, ◌≤◌, ◌++◌, length, map};
 ghost use Rattle.lines.specs.Answer.{values_of, answer_of};
 ghost use Rattle.lines.specs.Luma.{luma_line};
 ghost use Rattle.bench_record.specs.Refusal.{InRange, refusal_of};
@@ -9,8 +8,9 @@ ghost use Rattle.bench.specs.Bench.{segment_text};
 ghost use Rattle.bench.specs.Code.{tc_or_zero, thresholds_of, decision_or_skip};
 
 use bench_lines::{put_first, put_lines};
-use bench_record::{Head, line_of_record};
+use bench_record::{Head, Record};
 use lines::{Line, LumaAnswer, LumaDecision};
+use text::Text;
 
 // What the four lines of a segment are decided and filtered by; `largest` is the depth's largest sample.
 #[derive(Clone, Copy)]
@@ -60,32 +60,20 @@ fn decide(t: Thresholds, l0: Line, l3: Line) -> LumaAnswer
     }
 }
 
-fn filtered(d: LumaDecision, t: Thresholds, l: Line) -> Line
-    ensures { result ≡ luma_line (values_of d) t.largest t.tc l }
+fn filtered(d: LumaDecision, t: Thresholds, all: [Line; 4]) -> [Line; 4]
+    ensures { result ≡ map (luma_line (values_of d) t.largest t.tc) all }
 {
-    lines::luma_line(d, t.largest, t.tc, l)
+    all.map(|l| lines::luma_line(d, t.largest, t.tc, l))
 }
 
-pub(crate) fn put_segment(input: &[u8], out: &mut [u8]) -> usize
-    requires in_bounds { (72 ≤ length input.now) × (256 ≤ length out.old) }
-    requires accepted { refusal_of input.now ≡ 0 }
-    ensures puts { Puts out.old out.new 0 (segment_text input.now) result }
-    ensures upper_bound { result ≤ 256 }
+pub(crate) fn put_segment(out: &mut Text<256>, r: Record<'_>)
+    requires room { length out.old + 217 ≤ 256 }
+    requires accepted { refusal_of r.bytes.now ≡ 0 }
+    ensures { out.new ≡ out.old ++ segment_text r.entry.bytes.now }
 {
-    let t = thresholds_of(bench_record::head_of(input));
-    let l0 = line_of_record(input, 0);
-    let l1 = line_of_record(input, 1);
-    let l2 = line_of_record(input, 2);
-    let l3 = line_of_record(input, 3);
-    let answer = decide(t, l0, l3);
-    let decision = answer.decision;
-    let next = put_first(out, 0, answer, t.tc);
-    put_lines(
-        out,
-        next,
-        filtered(decision, t, l0),
-        filtered(decision, t, l1),
-        filtered(decision, t, l2),
-        filtered(decision, t, l3),
-    )
+    let t = thresholds_of(r.head());
+    let all = r.lines();
+    let answer = decide(t, all[0], all[3]);
+    put_first(out, answer, t.tc);
+    put_lines(out, &filtered(answer.decision, t, all));
 }

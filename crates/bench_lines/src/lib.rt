@@ -1,9 +1,8 @@
-// The lines of text that the segment bench prints, each put at `at` of a lent buffer. A function answers the place
-// past its text.
-#![tactic(auto)]
+// The lines of text that the segment bench prints, each put behind a text that has room for it.
+#![tactic(auto, unfolding(crate::specs::Lines::word_text, crate::specs::Lines::numbers_text, crate::specs::Lines::first_text, crate::specs::Lines::four_text, crate::specs::Lines::line_text, crate::specs::Lines::refused_text))]
 
-ghost use Rattle.std.specs.Prelude.{◌+◌, ◌≤◌, length};
-ghost use Rattle.text.specs.Text.{Puts};
+ghost use Rattle.std.specs.Prelude.{◌≡◌, ◌+◌, ◌*◌, ◌≤◌, ◌++◌, length};
+ghost use Rattle.std.specs.List.{flat_map};
 ghost use Rattle.lines.specs.Answer.{values_of};
 ghost use Rattle.bench_lines.specs.Lines.{
   word_text,
@@ -11,87 +10,83 @@ ghost use Rattle.bench_lines.specs.Lines.{
   first_text,
   four_text,
   line_text,
-  lines_text,
   refused_text,
 };
 
 use lines::{Line, LumaAnswer, LumaDecision, SideCounts};
-use text::{put_bytes, put_number_then};
+use text::Text;
 
-fn put_word(out: &mut [u8], at: usize, d: LumaDecision) -> usize
-    requires { at + 7 ≤ length out.old }
-    ensures puts { Puts out.old out.new at (word_text (values_of d).d_e) result }
-    ensures upper_bound { result ≤ at + 7 }
+fn put_word<const N: usize>(out: &mut Text<N>, d: LumaDecision)
+    requires { length out.old + 7 ≤ N }
+    ensures puts { out.new ≡ out.old ++ word_text (values_of d).d_e }
+    ensures upper_bound { length out.new ≤ length out.old + 7 }
 {
     match d {
-        LumaDecision::Skip => put_bytes(out, at, b"skip "),
-        LumaDecision::Strong => put_bytes(out, at, b"strong "),
-        LumaDecision::Weak { do_p1: _, do_q1: _ } => put_bytes(out, at, b"weak "),
+        LumaDecision::Skip => out.push_bytes(b"skip "),
+        LumaDecision::Strong => out.push_bytes(b"strong "),
+        LumaDecision::Weak { .. } => out.push_bytes(b"weak "),
     }
 }
 
 // tc and both counts, to the end of the line.
-fn put_numbers(out: &mut [u8], at: usize, tc: u16, c: SideCounts) -> usize
-    requires { at + 18 ≤ length out.old }
-    ensures puts { Puts out.old out.new at (numbers_text tc c) result }
-    ensures upper_bound { result ≤ at + 18 }
+fn put_numbers<const N: usize>(out: &mut Text<N>, tc: u16, c: SideCounts)
+    requires { length out.old + 18 ≤ N }
+    ensures puts { out.new ≡ out.old ++ numbers_text tc c }
+    ensures upper_bound { length out.new ≤ length out.old + 18 }
 {
     let p = c.p as u16;
     let q = c.q as u16;
-    let second = put_number_then(out, at, tc, 32);
-    let third = put_number_then(out, second, p, 32);
-    put_number_then(out, third, q, 10)
+    out.push_number_then(tc, b' ');
+    out.push_number_then(p, b' ');
+    out.push_number_then(q, b'\n');
 }
 
 // The decision, tc and both counts.
-pub fn put_first(out: &mut [u8], at: usize, answer: LumaAnswer, tc: u16) -> usize
-    requires { at + 25 ≤ length out.old }
-    ensures puts { Puts out.old out.new at (first_text (values_of answer.decision).d_e tc answer.counts) result }
-    ensures upper_bound { result ≤ at + 25 }
+pub fn put_first<const N: usize>(out: &mut Text<N>, answer: LumaAnswer, tc: u16)
+    requires { length out.old + 25 ≤ N }
+    ensures puts { out.new ≡ out.old ++ first_text (values_of answer.decision).d_e tc answer.counts }
+    ensures upper_bound { length out.new ≤ length out.old + 25 }
 {
-    let decision = answer.decision;
-    let counts = answer.counts;
-    let next = put_word(out, at, decision);
-    put_numbers(out, next, tc, counts)
+    put_word(out, answer.decision);
+    put_numbers(out, tc, answer.counts);
 }
 
-fn put_four(out: &mut [u8], at: usize, a: u16, b: u16, c: u16, d: u16, last: u8) -> usize
-    requires { at + 24 ≤ length out.old }
-    ensures puts { Puts out.old out.new at (four_text a b c d last) result }
-    ensures upper_bound { result ≤ at + 24 }
+fn put_four<const N: usize>(out: &mut Text<N>, a: u16, b: u16, c: u16, d: u16, last: u8)
+    requires { length out.old + 24 ≤ N }
+    ensures puts { out.new ≡ out.old ++ four_text a b c d last }
+    ensures upper_bound { length out.new ≤ length out.old + 24 }
 {
-    let second = put_number_then(out, at, a, 32);
-    let third = put_number_then(out, second, b, 32);
-    let fourth = put_number_then(out, third, c, 32);
-    put_number_then(out, fourth, d, last)
+    out.push_number_then(a, b' ');
+    out.push_number_then(b, b' ');
+    out.push_number_then(c, b' ');
+    out.push_number_then(d, last);
 }
 
-fn put_line(out: &mut [u8], at: usize, l: Line) -> usize
-    requires { at + 48 ≤ length out.old }
-    ensures puts { Puts out.old out.new at (line_text l) result }
-    ensures upper_bound { result ≤ at + 48 }
+fn put_line<const N: usize>(out: &mut Text<N>, l: Line)
+    requires { length out.old + 48 ≤ N }
+    ensures puts { out.new ≡ out.old ++ line_text l }
+    ensures upper_bound { length out.new ≤ length out.old + 48 }
 {
-    let fifth = put_four(out, at, l.p3, l.p2, l.p1, l.p0, 32);
-    put_four(out, fifth, l.q0, l.q1, l.q2, l.q3, 10)
+    put_four(out, l.p3, l.p2, l.p1, l.p0, b' ');
+    put_four(out, l.q0, l.q1, l.q2, l.q3, b'\n');
 }
 
-// The four lines of a segment.
-pub fn put_lines(out: &mut [u8], at: usize, l0: Line, l1: Line, l2: Line, l3: Line) -> usize
-    requires { at + 192 ≤ length out.old }
-    ensures puts { Puts out.old out.new at (lines_text l0 l1 l2 l3) result }
-    ensures upper_bound { result ≤ at + 192 }
+// The lines of a segment.
+pub fn put_lines<const N: usize>(out: &mut Text<N>, lines: &[Line])
+    requires { length out.old + 48 * length lines.now ≤ N }
+    ensures puts { out.new ≡ out.old ++ flat_map line_text lines.now }
+    ensures upper_bound { length out.new ≤ length out.old + 48 * length lines.now }
 {
-    let second = put_line(out, at, l0);
-    let third = put_line(out, second, l1);
-    let fourth = put_line(out, third, l2);
-    put_line(out, fourth, l3)
+    for line in lines {
+        put_line(out, *line);
+    }
 }
 
-pub fn put_refusal(out: &mut [u8], at: usize, n: u16) -> usize
-    requires { at + 14 ≤ length out.old }
-    ensures puts { Puts out.old out.new at (refused_text n) result }
-    ensures upper_bound { result ≤ at + 14 }
+pub fn put_refusal<const N: usize>(out: &mut Text<N>, n: u16)
+    requires { length out.old + 14 ≤ N }
+    ensures puts { out.new ≡ out.old ++ refused_text n }
+    ensures upper_bound { length out.new ≤ length out.old + 14 }
 {
-    let next = put_bytes(out, at, b"refused ");
-    put_number_then(out, next, n, 10)
+    out.push_bytes(b"refused ");
+    out.push_number_then(n, b'\n');
 }

@@ -1,14 +1,10 @@
--- `put_record` meets its contract: the test says whether the record is refused.
+-- `put_record` meets its contract: the record's check says whether it is refused.
 -- Assumes nothing.
 use Rattle.bench.proofs.Facts.{text_accepted, text_refused}
 use Rattle.bench.proofs.put_record.Goals as goal
 
-pub returns-then-n-eq0-clause-puts : goal.returns-then-n-eq0-clause-puts
-returns-then-n-eq0-clause-puts c =
-    let text = text_accepted _ c.refusal_of-n.ensures c.if-n-eq0.true in
-    rw (← text) c.put_segment.ensures.puts
+pub returns-in-Ok : goal.returns-in-Ok
+returns-in-Ok c = rw (← text_accepted _ c.in-Ok.ensures) c.put_segment.ensures
 
-pub returns-else-n-eq0-clause-puts : goal.returns-else-n-eq0-clause-puts
-returns-else-n-eq0-clause-puts c =
-    let text = text_refused _ c.refusal_of-n.ensures c.if-n-eq0.false in
-    rw (← text) c.put_refusal.ensures.puts
+pub returns-in-Err : goal.returns-in-Err
+returns-in-Err c = rw (← text_refused _ _ c.number.ensures c.in-Err.ensures) c.put_refusal.ensures.puts
