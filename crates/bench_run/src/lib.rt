@@ -1,30 +1,42 @@
-// The loop of the segment bench: records from standard input, their texts to standard output.
+// The loop of the segment bench: records from a reader, their texts to a writer. What is read and written has no
+// contract.
 #![tactic(auto)]
 
-// Standard input and output.
-const STDIN: i32 = 0;
+ghost use Rattle.std.specs.Prelude.{◌≤◌, length};
 
-const STDOUT: i32 = 1;
+use std::io;
+use std::io::{Read, Write};
 
-// Reads one record, writes its text, and answers whether to go on: not past the end of the input, which a record
-// shorter than 72 bytes shows, nor after a write that failed.
-fn one_record() -> bool {
-    let mut record = [0u8; 72];
-    let got = io::read_full(STDIN, &mut record);
-    let mut text = [0u8; 256];
-    let n = bench::bench_text(&record[..got], &mut text);
-    let is_written = io::write_all(STDOUT, &text[..n]);
-    if got < 72 {
-        return false;
+// Fills the list as far as the input goes, and answers how far; a read that fails ends the input. std's `read_exact`
+// fills it too, but does not say how far it came. A `while`, since a turn goes on by as much as the read gave.
+fn fill<R: Read>(input: &mut R, list: &mut [u8]) -> usize
+    ensures { result ≤ length list.old }
+{
+    let mut done = 0;
+    while done < list.len() {
+        match input.read(&mut list[done..]) {
+            Ok(more) if more > 0 => done += more,
+            _ => break,
+        }
     }
-    is_written
+    done
 }
 
-// A proved loop has to end, and nothing says that the input does. So the loop counts its turns down, from a number
-// that no run uses up.
-pub fn run() {
-    let mut turns = u64::MAX;
-    while turns > 0 && one_record() {
-        turns -= 1;
+// Reads one record and writes its text. Whether there may be another: a record shorter than 72 bytes is the last.
+fn one_record<R: Read, W: Write>(input: &mut R, output: &mut W) -> io::Result<bool> {
+    let mut record = [0u8; 72];
+    let got = fill(input, &mut record);
+    output.write_all(bench::bench_text(&record[..got]).bytes())?;
+    Ok(got == 72)
+}
+
+// A proved loop has to end, and nothing says that the input does. So the turns are counted, up to a number that no run
+// reaches.
+pub fn run<R: Read, W: Write>(input: &mut R, output: &mut W) -> io::Result<()> {
+    for _ in 0..u64::MAX {
+        if !one_record(input, output)? {
+            break;
+        }
     }
+    Ok(())
 }
