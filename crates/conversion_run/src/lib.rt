@@ -1,5 +1,5 @@
-// Cell lists from a reader, converted to a writer; what goes wrong is said to a third stream. What is read and written
-// has no contract.
+// Cell lists from a reader, converted to a writer; what goes wrong is said to a third stream. What is said has no
+// contract.
 #![tactic(auto)]
 
 mod parts;

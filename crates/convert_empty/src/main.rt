@@ -2,7 +2,8 @@
 #![tactic(auto)]
 
 fn main(rt: HostRuntime) {
-    conversion_run::convert_input(
+    // What goes wrong has been said.
+    let _ = conversion_run::convert_input(
         &mut rt.stdin(),
         &mut rt.stdout(),
         &mut rt.stderr(),

@@ -1,5 +1,9 @@
--- `convert_input`'s loop ends: the measure is the bytes that are left.
+-- `convert_input`'s loop: the parts so far were full, and are written converted.
+use Rattle.std.proofs.Common.{◌*◌, min, true}
+use Rattle.conversion_run.specs.Streams.{Converts}
 use Rattle.conversion_run.proofs.parts.convert_input.Given as goal
 
-abbrev pub decreases-loop-left : goal.decreases-loop-left
-decreases-loop-left g l = l.left
+abbrev pub invariant-loop-part : goal.invariant-loop-part
+invariant-loop-part g l =
+    Converts (min (l.part * 32768) l.most) true (g.R.Read.remaining l.initial.input) (g.R.Read.remaining l.input)
+    (g.W.Write.contents l.initial.output) (g.W.Write.contents l.output)

@@ -1,5 +1,0 @@
--- `main` ends: the measure is the number of turns that are left.
-use Rattle.convert_lists.proofs.main.Given as goal
-
-abbrev pub decreases-loop-turns : goal.decreases-loop-turns
-decreases-loop-turns l = l.turns
