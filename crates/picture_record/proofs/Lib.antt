@@ -1,3 +1,2 @@
 mod Joined
 mod Limits
-mod Taken

@@ -1,2 +1,4 @@
 pub mod Head
 pub mod Numbers
+pub mod Reading
+pub mod Stops

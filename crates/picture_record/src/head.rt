@@ -2,7 +2,7 @@
 ghost use Rattle.std.specs.Prelude.{◌≡◌, ◌<◌, min};
 ghost use Rattle.picture_record.specs.Head.{marked, settings_in, length_in, limit_of, within};
 
-use crate::numbers::{signed, word};
+use crate::numbers::word;
 use picture::Settings;
 
 const MARK: u32 = 1397247060;
@@ -32,8 +32,8 @@ pub fn settings(head: &[u8; 80]) -> Settings
         luma_depth: word(head, 4),
         chroma_depth: word(head, 5),
         log2_ctb: word(head, 6),
-        cb_qp_offset: signed(word(head, 7)),
-        cr_qp_offset: signed(word(head, 8)),
+        cb_qp_offset: word(head, 7).cast_signed(),
+        cr_qp_offset: word(head, 8).cast_signed(),
         pcm_loop_filter_disabled: word(head, 9) != 0,
     }
 }
@@ -42,16 +42,12 @@ pub fn settings(head: &[u8; 80]) -> Settings
 fn limit_of(k: usize) -> usize
     ensures { result ≡ limit_of k }
 {
-    if k < 6 {
-        return SAMPLES;
+    match k {
+        0..=5 => SAMPLES,
+        6 => CELL_BYTES,
+        7 => SLICE_BYTES,
+        _ => STARTS,
     }
-    if k == 6 {
-        return CELL_BYTES;
-    }
-    if k == 7 {
-        return SLICE_BYTES;
-    }
-    STARTS
 }
 
 // Length k of the ten, and never more than its limit.
@@ -59,24 +55,17 @@ pub fn length_at(head: &[u8; 80], k: usize) -> usize
     requires { k < 10 }
     ensures { result ≡ min (length_in head.now k) (limit_of k) }
 {
-    let most = limit_of(k);
-    let n = word(head, 10 + k) as usize;
-    if n < most {
-        return n;
-    }
-    most
+    limit_of(k).min(word(head, 10 + k) as usize)
 }
 
 // Whether all lengths are within their limits.
 pub fn all_fit(head: &[u8; 80]) -> bool
     ensures { result ≡ within head.now 10 }
 {
-    let mut k = 0;
-    while k < 10 {
+    for k in 0..10 {
         if limit_of(k) < word(head, 10 + k) as usize {
             return false;
         }
-        k += 1;
     }
     true
 }

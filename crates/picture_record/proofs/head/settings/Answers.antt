@@ -9,15 +9,22 @@ use mir.Facts.{to_z-of_z}
 use mir.Syntax.{w32}
 use Rattle.picture_record.specs.Head.{settings_in}
 use Rattle.picture_record.specs.Numbers.{signed_of}
+use Rattle.picture_record.proofs.Joined.{signed_bits}
 use Rattle.picture_record.proofs.head.settings.Goals as goal
 
 pub returns : goal.returns
 unfolding settings_in
 returns c =
     let cb_offset =
-    to_z-of_z (sfits_of {w = w32} c.signed.type_inv) ∙ c.signed.ensures ∙ ap signed_of c.word-7.ensures in
+    to_z-of_z (sfits_of {w = w32} c.cast_signed.type_inv)
+    ∙ c.cast_signed.ensures
+    ∙ signed_bits _ c.word-7.type_inv
+    ∙ ap signed_of c.word-7.ensures in
     let cr_offset =
-    to_z-of_z (sfits_of {w = w32} c.signed-2.type_inv) ∙ c.signed-2.ensures ∙ ap signed_of c.word-8.ensures in
+    to_z-of_z (sfits_of {w = w32} c.cast_signed-2.type_inv)
+    ∙ c.cast_signed-2.ensures
+    ∙ signed_bits _ c.word-8.type_inv
+    ∙ ap signed_of c.word-8.ensures in
     let switch = ap (λ (w : ℕ). not (eqb w 0)) c.word-9.ensures in
     λ i. record {
       width = c.word.ensures i;

@@ -1,9 +1,7 @@
--- `read_by` is safe: the buffer has two bytes for each number.
+-- `read_by` meets its contract: the bytes that it read are the numbers'.
 -- Assumes nothing.
-use native.Mathlib.Omega.{arith}
-use lib.ListN.{length-take}
+use Rattle.std.proofs.Common.{rules}
 use Rattle.picture_record.proofs.reading.read_by.Goals as goal
 
-pub slice_bounds-read_full-end-2 : goal.slice_bounds-read_full-end-2
-slice_bounds-read_full-end-2 c =
-    simp length-take (omega arith)
+pub returns : goal.returns
+returns g c = (c.read_bytes.new.out, search rules, search rules, search rules)
