@@ -1,8 +1,16 @@
 // The line of a picture's farthest moves (document 02, C-23): its number, the verdict's number and place, and where the
 // picture is accepted, of each plane how far the farthest sample moved, and its place in the plane.
-use crate::words::{put_number, put_number_then};
+ghost use Rattle.std.specs.Prelude.{OnOk, Some};
+ghost use Rattle.std.specs.Io.KnownBytes.{Appends};
+ghost use Rattle.picture.specs.Lent.{planes_lent};
+ghost use Rattle.picture_text.specs.Lines.{MovesOf, moves_text, moves_line};
+
 use ledger::{Verdict, number_of, place_of};
-use moves::Move;
+use moves::{Move, farthest_move};
+use picture::Planes;
+use std::fmt;
+use std::io;
+use std::io::Write;
 
 // The farthest moves of the three planes.
 #[derive(Clone, Copy)]
@@ -12,35 +20,41 @@ pub struct Moves {
     pub cr: Move,
 }
 
-fn put_move(far: Move, end: &[u8]) -> bool {
-    if !put_number(far.distance as u64) {
-        return false;
+impl Moves {
+    pub fn of(before: &Planes<'_>, after: &Planes<'_>) -> Moves
+        ensures { MovesOf (planes_lent before.now) (planes_lent after.now) result }
+    {
+        Moves {
+            y: farthest_move(before.y, after.y),
+            cb: farthest_move(before.cb, after.cb),
+            cr: farthest_move(before.cr, after.cr),
+        }
     }
-    put_number_then(far.place as u64, end)
 }
 
-fn put_three(far: Moves) -> bool {
-    if !put_move(far.y, b" ") {
-        return false;
+impl fmt::Display for Moves {
+    ghost output = { λ moves. Some (moves_text moves) };
+
+    fn fmt<W: fmt::Write>(&self, f: &mut fmt::Formatter<W>) -> fmt::Result {
+        let y = self.y;
+        let cb = self.cb;
+        let cr = self.cr;
+        write!(f, "{} {} ", y.distance, y.place)?;
+        write!(f, "{} {} ", cb.distance, cb.place)?;
+        write!(f, "{} {}", cr.distance, cr.place)
     }
-    if !put_move(far.cb, b" ") {
-        return false;
-    }
-    put_move(far.cr, b"\n")
 }
 
-pub fn put_moves(number: u64, verdict: Verdict, far: Moves) -> bool {
-    if !put_number(number) {
-        return false;
-    }
-    if !put_number(number_of(verdict) as u64) {
-        return false;
-    }
+pub fn put_moves<W: Write>(
+    output: &mut W,
+    number: u64,
+    verdict: Verdict,
+    far: Moves,
+) -> io::Result<()>
+    ensures { OnOk result (Appends (W.contents output.old) (W.contents output.new) (moves_line number verdict far)) }
+{
     let Verdict::Accepted = verdict else {
-        return put_number_then(place_of(verdict), b"\n");
+        return writeln!(output, "{number} {} {}", number_of(verdict), place_of(verdict));
     };
-    if !put_number(place_of(verdict)) {
-        return false;
-    }
-    put_three(far)
+    writeln!(output, "{number} {} {} {far}", number_of(verdict), place_of(verdict))
 }

@@ -1,12 +1,16 @@
 // The floats of a pixel and the sample of a float (document 02, C-22). A float is shown by its bit pattern, eight
 // hexadecimal digits.
-ghost use Rattle.std.specs.Prelude.{cond, ◌≡◌};
+ghost use Rattle.std.specs.Prelude.{cond, ◌≡◌, OnOk};
 ghost use Rattle.std.specs.Float.{binary32};
 ghost use Rattle.std.specs.Float.Ieee.{is_nan, to_bits};
+ghost use Rattle.std.specs.Io.KnownBytes.{Appends};
+ghost use Rattle.picture_text.specs.Lines.{pixel_line, recovered_line};
 
-use crate::words::{put_answer, put_number, put_number_then, put_three, put_word};
+use crate::words::word;
 use ledger::{number_of, place_of};
 use recogniser::{Pixel, Recovered};
+use std::io;
+use std::io::Write;
 
 // The bit pattern of a float; of a NaN, which no sample gives, the quiet one's.
 pub fn bits_of(x: f32) -> u32
@@ -19,41 +23,31 @@ pub fn bits_of(x: f32) -> u32
 }
 
 // The line of a pixel: its number, the answer's number and place, and its part or parts.
-pub fn put_pixel(number: u64, answer: Pixel) -> bool {
-    if !put_number(number) {
-        return false;
-    }
+pub fn put_pixel<W: Write>(output: &mut W, number: u64, answer: Pixel) -> io::Result<()>
+    ensures { OnOk result (Appends (W.contents output.old) (W.contents output.new) (pixel_line number answer)) }
+{
     match answer {
-        Pixel::Refused(verdict) => put_answer(number_of(verdict), place_of(verdict), b"\n"),
-        Pixel::Outside => put_answer(14, 0, b"\n"),
-        Pixel::Grey(luma) => {
-            if !put_answer(0, 0, b" ") {
-                return false;
-            }
-            put_word(bits_of(luma), b"\n")
+        Pixel::Refused(verdict) => {
+            writeln!(output, "{number} {} {}", number_of(verdict), place_of(verdict))
         }
+        Pixel::Outside => writeln!(output, "{number} 14 0"),
+        Pixel::Grey(luma) => writeln!(output, "{number} 0 0 {}", word(bits_of(luma))),
         Pixel::Colour(parts) => {
-            if !put_answer(0, 0, b" ") {
-                return false;
-            }
-            put_three(bits_of(parts.luma), bits_of(parts.cb), bits_of(parts.cr))
+            let luma = word(bits_of(parts.luma));
+            let cb = word(bits_of(parts.cb));
+            let cr = word(bits_of(parts.cr));
+            writeln!(output, "{number} 0 0 {luma} {cb} {cr}")
         }
     }
 }
 
 // The line of a float: its number, the answer's number and place, and its sample.
-pub fn put_recovered(number: u64, answer: Recovered) -> bool {
-    if !put_number(number) {
-        return false;
-    }
+pub fn put_recovered<W: Write>(output: &mut W, number: u64, answer: Recovered) -> io::Result<()>
+    ensures { OnOk result (Appends (W.contents output.old) (W.contents output.new) (recovered_line number answer)) }
+{
     match answer {
-        Recovered::Depth => put_answer(3, 0, b"\n"),
-        Recovered::NoSample => put_answer(15, 0, b"\n"),
-        Recovered::Sample(sample) => {
-            if !put_answer(0, 0, b" ") {
-                return false;
-            }
-            put_number_then(sample as u64, b"\n")
-        }
+        Recovered::Depth => writeln!(output, "{number} 3 0"),
+        Recovered::NoSample => writeln!(output, "{number} 15 0"),
+        Recovered::Sample(sample) => writeln!(output, "{number} 0 0 {sample}"),
     }
 }

@@ -1,5 +1,4 @@
-// The lines that the programs on stored pictures print. oracle/README.md has their layout. What goes through io has no
-// contract: none of io's says what was written. Each function that writes answers whether all was written.
+// The lines that the programs on stored pictures print. oracle/README.md has their layout.
 #![tactic(auto)]
 
 mod farthest;
@@ -12,4 +11,4 @@ pub use farthest::{Moves, put_moves};
 pub use floats::{bits_of, put_pixel, put_recovered};
 pub use pictures::put_line;
 pub use sums::{put_checksums, put_sum};
-pub use words::{Fingerprints, put_fingerprints, put_number, stop};
+pub use words::Fingerprints;

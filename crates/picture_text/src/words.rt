@@ -1,10 +1,34 @@
 // The words of a line.
-ghost use Rattle.std.specs.Prelude.{false, ◌≡◌};
+ghost use Rattle.std.specs.Prelude.{◌≡◌, Some};
+ghost use Rattle.picture.specs.Lent.{planes_lent};
+ghost use Rattle.picture_text.specs.Lines.{hex, fingerprints_of, fingerprints_text};
 
-// Standard output.
-const STDOUT: i32 = 1;
+use fingerprint::fingerprint;
+use picture::Planes;
+use std::fmt;
 
-// The fingerprints of a picture's three planes.
+// A number in N hexadecimal digits.
+#[derive(Clone, Copy)]
+pub(crate) struct Hex<const N: usize>(pub u64);
+
+impl<const N: usize> fmt::Display for Hex<N> {
+    ghost output = { λ word. Some (hex N word.0) };
+
+    fn fmt<W: fmt::Write>(&self, f: &mut fmt::Formatter<W>) -> fmt::Result {
+        let digits = N;
+        let number = self.0;
+        write!(f, "{number:0digits$x}")
+    }
+}
+
+// A number of 32 bits, eight digits.
+pub(crate) fn word(number: u32) -> Hex<8>
+    ensures { result.0 ≡ number }
+{
+    Hex(u64::from(number))
+}
+
+// The fingerprints of a picture's three planes, sixteen digits each.
 #[derive(Clone, Copy)]
 pub struct Fingerprints {
     pub y: u64,
@@ -12,63 +36,26 @@ pub struct Fingerprints {
     pub cr: u64,
 }
 
-// A number and what follows it.
-pub(crate) fn put_number_then(n: u64, end: &[u8]) -> bool {
-    if !io::print_decimal(STDOUT, n) {
-        return false;
+impl Fingerprints {
+    pub fn of(planes: &Planes<'_>) -> Fingerprints
+        ensures { result ≡ fingerprints_of (planes_lent planes.now) }
+    {
+        Fingerprints {
+            y: fingerprint(planes.y),
+            cb: fingerprint(planes.cb),
+            cr: fingerprint(planes.cr),
+        }
     }
-    io::write_all(STDOUT, end)
 }
 
-pub fn put_number(n: u64) -> bool {
-    put_number_then(n, b" ")
-}
+impl fmt::Display for Fingerprints {
+    ghost output = { λ planes. Some (fingerprints_text planes) };
 
-// So many hexadecimal digits of a number, and what follows it.
-pub(crate) fn put_hex_then(n: u64, digits: usize, end: &[u8]) -> bool {
-    if !io::print_hex(STDOUT, n, digits) {
-        return false;
+    #[tactic(auto, unfolding(crate::specs::Lines::fingerprints_text))]
+    fn fmt<W: fmt::Write>(&self, f: &mut fmt::Formatter<W>) -> fmt::Result {
+        let y = Hex::<16>(self.y);
+        let cb = Hex::<16>(self.cb);
+        let cr = Hex::<16>(self.cr);
+        write!(f, "{y} {cb} {cr}")
     }
-    io::write_all(STDOUT, end)
-}
-
-// The number and the place of an answer, and what follows them.
-pub(crate) fn put_answer(number: u32, place: u64, end: &[u8]) -> bool {
-    if !put_number(number as u64) {
-        return false;
-    }
-    put_number_then(place, end)
-}
-
-// A number of 32 bits, eight digits, and what follows it.
-pub(crate) fn put_word(word: u32, end: &[u8]) -> bool {
-    put_hex_then(word as u64, 8, end)
-}
-
-pub(crate) fn put_three(y: u32, cb: u32, cr: u32) -> bool {
-    if !put_word(y, b" ") {
-        return false;
-    }
-    if !put_word(cb, b" ") {
-        return false;
-    }
-    put_word(cr, b"\n")
-}
-
-pub fn put_fingerprints(planes: Fingerprints) -> bool {
-    if !put_hex_then(planes.y, 16, b" ") {
-        return false;
-    }
-    if !put_hex_then(planes.cb, 16, b" ") {
-        return false;
-    }
-    put_hex_then(planes.cr, 16, b"\n")
-}
-
-// A word in place of a line. The answer is not to go on.
-pub fn stop(word: &[u8]) -> bool
-    ensures { result ≡ false }
-{
-    io::write_all(STDOUT, word);
-    false
 }
