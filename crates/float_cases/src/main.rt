@@ -6,11 +6,10 @@ ghost use Rattle.std.specs.Prelude.{◌≡◌};
 ghost use Rattle.std.specs.Float.{binary32};
 ghost use Rattle.std.specs.Float.Ieee.{of_bits};
 
-use picture_record::word;
-use picture_text::{put_recovered, stop};
+use picture_record::{Stop, each_record, read_head, word};
+use picture_text::put_recovered;
 use recogniser::sample_of;
-
-const STDIN: i32 = 0;
+use std::io::{Read, Write};
 
 // The float of a bit pattern. Rattle has one NaN, which has no pattern: 0/0 makes it.
 fn float_of(bits: u32) -> f32
@@ -22,28 +21,20 @@ fn float_of(bits: u32) -> f32
     f32::from_bits(bits)
 }
 
-// The next record: the depth, luma or chroma, and the float's pattern. Answers whether to go on.
-fn one_float(number: u64) -> bool {
-    let mut words = [0u8; 12];
-    let got = io::read_full(STDIN, &mut words);
-    if got == 0 {
-        return false;
-    }
-    if got < 12 {
-        return stop(b"short\n");
-    }
+// The next record: the depth, luma or chroma, and the float's pattern.
+fn one_float<R: Read, W: Write>(input: &mut R, output: &mut W, number: u64) -> Result<(), Stop> {
+    let words = read_head::<12, R>(input)?;
     let value = float_of(word(&words, 2));
     put_recovered(
+        output,
         number,
         sample_of(word(&words, 0), word(&words, 1) != 0, value),
-    )
+    )?;
+    Ok(())
 }
 
-// A proved loop has to end, and nothing says that the input does. So the loop counts its turns, to a number that no
-// run reaches.
-fn main() {
-    let mut number = 1;
-    while number < u64::MAX && one_float(number) {
-        number += 1;
-    }
+fn main(rt: HostRuntime) {
+    each_record(&mut rt.stdin(), &mut rt.stdout(), |input, output, number| {
+        one_float(input, output, number)
+    });
 }
