@@ -1,5 +1,5 @@
 -- The loop's invariant: the samples before this one came back, and their floats are in.
-use Prim.Native.Nat.{◌-◌, ◌^◌, ◌≤◌}
+use Prim.Native.Nat.{◌^◌, ◌≤◌}
 use mathlib.Core.Path.{◌≡◌}
 use Rattle.sample_trips.specs.Trip.{patterns}
 use Rattle.sample_trips.proofs.all_samples.Given as goal
@@ -7,6 +7,3 @@ use Rattle.sample_trips.proofs.all_samples.Given as goal
 abbrev pub invariant-loop-sample : goal.invariant-loop-sample
 invariant-loop-sample l =
     (l.sample ≤ 2 ^ l.depth) × (l.count ≡ l.sample) × (l.patterns ≡ patterns l.depth l.chroma l.sample)
-
-abbrev pub decreases-loop-sample : goal.decreases-loop-sample
-decreases-loop-sample l = 2 ^ l.depth - l.sample
