@@ -5,8 +5,11 @@
 use checksum::{Checksums, picture_checksums};
 use picture::Settings;
 use picture_text::put_sum;
+use std::io;
+use std::io::Write;
 
-fn main() {
+// A picture that was refused would have no line.
+fn put_sums<W: Write>(output: &mut W) -> io::Result<()> {
     let settings = Settings {
         width: 8,
         height: 8,
@@ -20,11 +23,15 @@ fn main() {
     };
     let luma = [0u16; 64];
     let chroma = [0u16; 16];
-    let answer = picture_checksums(settings, &luma, &chroma, &chroma);
-    let Checksums::Three { y, cb, cr } = answer else {
-        return;
-    };
-    put_sum(y, b"\n");
-    put_sum(cb, b"\n");
-    put_sum(cr, b"\n");
+    if let Checksums::Three { y, cb, cr } = picture_checksums(settings, &luma, &chroma, &chroma) {
+        put_sum(output, y)?;
+        put_sum(output, cb)?;
+        put_sum(output, cr)?;
+    }
+    Ok(())
+}
+
+// Where the output takes no more, the rest is left out.
+fn main(rt: HostRuntime) {
+    let _ = put_sums(&mut rt.stdout());
 }

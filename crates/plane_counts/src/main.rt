@@ -5,6 +5,6 @@
 mod pairs;
 mod turn;
 
-fn main() {
-    turn::run();
+fn main(rt: HostRuntime) {
+    turn::run(&mut rt.stdin(), &mut rt.stdout());
 }

@@ -29,28 +29,21 @@ pub(crate) fn pair_in(head: &[u8; 24]) -> Pair
 }
 
 // Whether the program's lists hold the planes.
+#[tactic(auto, unfolding(crate::specs::Pairs::small))]
 pub(crate) fn is_small(pair: Pair) -> bool
     ensures { result ≡ small pair }
 {
-    if SAMPLES < pair.stride {
-        return false;
-    }
-    if SAMPLES < pair.rows {
-        return false;
-    }
-    pair.stride * pair.rows <= SAMPLES
+    pair.stride <= SAMPLES && pair.rows <= SAMPLES && pair.stride * pair.rows <= SAMPLES
 }
 
 // Whether the columns or rows from `first` on, so many, are among `all`.
 fn lies_in(first: usize, count: usize, all: usize) -> bool
     ensures { result ≡ leb (count + first) all }
 {
-    if all < first {
-        return false;
-    }
-    count <= all - first
+    first <= all && count <= all - first
 }
 
+#[tactic(auto, unfolding(crate::specs::Pairs::inside))]
 pub(crate) fn is_inside(pair: Pair) -> bool
     ensures { result ≡ inside pair }
 {

@@ -5,7 +5,7 @@ use lib.ListN.{length-take}
 use Rattle.plane_counts.proofs.turn.with_planes.Goals as goal
 
 pub slice_bounds-read_and_count-end : goal.slice_bounds-read_and_count-end
-slice_bounds-read_and_count-end c =
+slice_bounds-read_and_count-end g c =
     simp length-take (omega arith)
 
 pub slice_bounds-read_and_count-end-2 : goal.slice_bounds-read_and_count-end-2
@@ -13,7 +13,7 @@ slice_bounds-read_and_count-end-2 c =
     simp length-take (omega arith)
 
 pub read_and_count-requires : goal.read_and_count-requires
-read_and_count-requires c =
+read_and_count-requires g c =
     record {
       fitting = c.requires;
       first_len = simp length-take (omega arith);
