@@ -43,10 +43,11 @@ pub fn luma_decision(beta: u16, tc: u16, l0: Line, l3: Line) -> LumaAnswer
     if d >= beta {
         return with_counts(LumaDecision::Skip);
     }
+    let d_sam0 = d_sam(beta, tc, 2 * dpq0, l0);
     // where dSam0 is 0, dSam3 decides nothing
-    let strong = d_sam(beta, tc, 2 * dpq0, l0) && d_sam(beta, tc, 2 * dpq3, l3);
+    let d_sam3 = d_sam0 && d_sam(beta, tc, 2 * dpq3, l3);
     // dE is 2, whose filter reads no side flag
-    if strong {
+    if d_sam3 {
         return with_counts(LumaDecision::Strong);
     }
     // dE is 1
