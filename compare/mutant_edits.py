@@ -12,6 +12,11 @@ class Edit(NamedTuple):
     built: str = "tinladle"  # the crate that shows it: the library, or a program
 
 
+def rows(*numbers):
+    """Rows of a table."""
+    return "".join(f"{n}, " for n in range(*numbers)).rstrip()
+
+
 THRESHOLDS = [
     Edit("thresholds/luma", "(p as u32) + (q as u32) + 1)", "(p as u32) + (q as u32))"),
     Edit("thresholds/luma", "clip_index(51, (average", "clip_index(50, (average"),
@@ -26,13 +31,14 @@ THRESHOLDS = [
     Edit("thresholds/luma_table", "0, // QP 0, bS 1, div2 -6", "1, // QP 0, bS 1, div2 -6", built="segment_bench"),
     Edit("thresholds/luma_table", "2, // QP 26, bS 2, div2 1", "3, // QP 26, bS 2, div2 1", built="segment_bench"),
     Edit("thresholds/luma_table", "24, // QP 51, bS 2, div2 6", "23, // QP 51, bS 2, div2 6", built="segment_bench"),
-    Edit("thresholds/tables", "if q < 16 {", "if q < 17 {"),
-    Edit("thresholds/tables", "(q - 10) as u16", "(q - 9) as u16"),
-    Edit("thresholds/tables", "(2 * q - 38) as u16", "(2 * q - 39) as u16"),
-    Edit("thresholds/tables", "0x01_01_01_01_01_01_00_00", "0x01_01_01_01_01_00_00_00"),  # row 18 is 0
-    Edit("thresholds/tables", "% 256) as u16", "% 16) as u16"),
-    Edit("thresholds/tables", "0x00_00_18_16", "0x00_00_17_16"),  # the last row is 23
-    Edit("thresholds/tables", "(31 + q / 2) as u32", "(31 + (q + 1) / 2) as u32"),
+    # Rows 16, 16 to 28 and 29 to 51 of beta'; rows 18, those above 15 and the last of tc'; rows 34 to 43 of QpC.
+    Edit("thresholds/tables", "0, 6, 7, 8,", "0, 0, 7, 8,"),
+    Edit("thresholds/tables", rows(6, 19), rows(7, 20)),
+    Edit("thresholds/tables", rows(20, 65, 2), rows(19, 64, 2)),
+    Edit("thresholds/tables", "0, 1, 1, 1,", "0, 0, 1, 1,"),
+    Edit("thresholds/tables", "TC_ROWS[q] as u16", "(TC_ROWS[q] % 16) as u16"),
+    Edit("thresholds/tables", "22, 24,\n]", "22, 23,\n]"),
+    Edit("thresholds/tables", "33, 33, 34, 34, 35, 35, 36, 36, 37, 37]", "33, 34, 34, 35, 35, 36, 36, 37, 37, 38]"),
     Edit("thresholds/tables", "v << (depth - 8)", "v << (depth - 8) / 2"),
     # The Rust's clip of the chroma index, at 0 and at 57.
     Edit("thresholds/chroma", "if index < 106 {\n        index\n", "if index < 106 {\n        if index < 76 { 76 } else { index }\n",
@@ -43,23 +49,23 @@ THRESHOLDS = [
          "row 43 of the table is 37, which is also 43 - 6 (theorem qpc-ends)"),
     Edit("thresholds/chroma", "index - 6\n", "index - 7\n"),
     Edit("thresholds/chroma", "if format == 1 {", "if format <= 2 {"),
-    Edit("thresholds/chroma", "if index < 127 { index } else { 127 }", "if index < 128 { index } else { 128 }"),
+    Edit("thresholds/chroma", "index.min(127)", "index.min(128)"),
     Edit("thresholds/chroma", "qp + 4 + 2 * (offset as u32)", "qp + 3 + 2 * (offset as u32)"),
     Edit("thresholds/chroma", "ints::clip_index(53,", "ints::clip_index(52,"),
 ]
 
 DECISION = [
-    Edit("lines/decision", "if dpq >= beta >> 2 {", "if dpq > beta >> 2 {"),
-    Edit("lines/decision", "if ends >= beta >> 3 {", "if ends > beta >> 3 {"),
+    Edit("lines/decision", "dpq < beta >> 2", "dpq <= beta >> 2"),
+    Edit("lines/decision", "ends < beta >> 3", "ends <= beta >> 3"),
     Edit("lines/decision", "step < (5 * (tc as u32) + 1) >> 1", "step < (5 * (tc as u32)) >> 1"),
     Edit("lines/decision", "side_activity(l3.q2, l3.q1, l3.q0)", "side_activity(l0.q2, l0.q1, l0.q0)"),
     Edit("lines/decision", "let dpq3 = dp3 + dq3;", "let dpq3 = dp3 + dq0;"),
     Edit("lines/decision", "let dp = dp0 + dp3;", "let dp = dp0 + dq0;"),
     Edit("lines/decision", "let d = dpq0 + dpq3;", "let d = dpq0 + dpq0;"),
     Edit("lines/decision", "if d >= beta {", "if d > beta {"),
-    Edit("lines/decision", "if d_sam0 {", "if true {"),
-    Edit("lines/decision", "2 * dpq3, l3.p3", "2 * dpq0, l3.p3"),
-    Edit("lines/decision", "if d_sam3 {", "if true {"),
+    Edit("lines/decision", "d_sam0 && d_sam(", "d_sam("),
+    Edit("lines/decision", "2 * dpq3, l3", "2 * dpq0, l3"),
+    Edit("lines/decision", "if d_sam3 {", "if d_sam0 {"),
     Edit("lines/decision", "dp < (beta + (beta >> 1)) >> 3", "dp < (beta + (beta >> 1)) >> 2"),
     Edit("lines/decision", "let d_eq = dq < (", "let d_eq = dq <= ("),
     Edit("lines/decision", "do_p1: d_ep,", "do_p1: d_eq,"),
@@ -69,17 +75,22 @@ DECISION = [
 WINDOWS = [
     Edit("window_lines/rows", "base + across, a.p2, b.p2, c.p2, d.p2)", "base + across, a.p2, c.p2, b.p2, d.p2)"),
     Edit("window_lines/rows", "a.q2, b.q2, c.q2, d.q2)", "a.q2, b.q2, c.q2, c.q2)"),
-    Edit("luma_windows/rows", "l3: weak(t, p, q, w.l3)", "l3: weak(t, q, p, w.l3)"),
+    Edit("luma_windows/rows", "across, v);",
+         "across, Lines { l0: v.l0, l1: v.l1, l2: v.l2, l3: weak_line(t.largest, t.tc, do_q1, do_p1, w.l3) });"),
     Edit("window_lines/line", "take_line(s, base + 2 * along, across)", "take_line(s, base + along, across)"),
-    Edit("luma_windows/turned", "take_line(t, j, 4)", "take_line(t, 3 - j, 4)"),
+    Edit("luma_windows/turned", "take_line(&t[..], j, 4)", "take_line(&t[..], 3 - j, 4)"),
     Edit("luma_windows/luma", "if let LumaDecision::Skip = d {", "if let LumaDecision::Strong = d {"),
     Edit("chroma_windows/chroma", "at + across, a.p0, b.p0, c.p0, d.p0)", "at + across, a.p0, c.p0, b.p0, d.p0)"),
     Edit("chroma_windows/chroma", "let at = base + 2 * across;", "let at = base + 1 * across;"),
     Edit("chroma_windows/chroma", "put_pair(s, at + 1, l.p0, l.q0)", "put_pair(s, at + 1, l.p0, l.q1)"),
 ]
 
+MOVED = """    ((x as u32) + d)
+        .min(65536 + (largest as u32))
+        .saturating_sub(65536) as u16
+"""
 LINES = [
-    Edit("lines/strong", "let d = raised(tc, tc);", "let d = tc;"),
+    Edit("lines/strong", "let d = tc.saturating_add(tc);", "let d = tc;"),
     Edit("lines/strong", "2 * (d as u32) + (e as u32) + 4) >> 3", "2 * (d as u32) + (e as u32) + 3) >> 3"),
     Edit("lines/strong", "(d as u32) + 2) >> 2", "(d as u32) + 1) >> 2"),
     Edit("lines/strong", "(2 * (a as u32) + 3 * (b as u32)", "(3 * (a as u32) + 2 * (b as u32)"),
@@ -89,88 +100,91 @@ LINES = [
     Edit("lines/weak", "let half = tc >> 1;", "let half = tc;"),
     Edit("lines/weak", "(x0 as u32) + 1) >> 1;", "(x0 as u32)) >> 1;"),
     Edit("lines/weak", "l.q2, l.q1, l.q0, e),", "l.q2, l.q1, l.q0, d),"),
-    Edit("lines/delta", "at_most(65536 + w, d)", "at_most(65537 + w, d)"),
-    Edit("lines/delta", "if s < 65536 {", "if s < 65530 {"),
-    Edit("lines/delta", "at_most(65536 + (largest as u32), (x as u32) + d)", "at_most(131071, (x as u32) + d)"),
+    Edit("lines/delta", "d.min(65536 + w)", "d.min(65537 + w)"),
+    Edit("lines/delta", MOVED, """    let s = ((x as u32) + d).min(65536 + (largest as u32));
+    if s < 65530 { 0 } else { (s - 65536) as u16 }
+"""),
+    Edit("lines/delta", ".min(65536 + (largest as u32))", ".min(131071)"),
     Edit("lines/chroma", "524292", "524291"),
     Edit("lines/chroma", "(4 * (l.p0 as u32) + (l.q1 as u32))", "(4 * (l.p0 as u32) + (l.p1 as u32))"),
 ]
 
 GATE = [
-    Edit("filter/gate", "if s.disabled {", "if s.disabled && s.across {"),
-    Edit("filter/gate", "if p.slice == q.slice {", "if p.slice <= q.slice {"),
+    Edit("filter/gate", "& !s.disabled", "& !(s.disabled & s.across)"),
+    Edit("filter/gate", "p.slice == q.slice", "p.slice <= q.slice"),
     Edit("filter/gate", "slice_at(slices, q.slice as usize)", "slice_at(slices, p.slice as usize)"),
     Edit("filter/gate", "((c.flags / 8 % 2 == 1) & pcm)", "(c.flags / 8 % 2 == 1)"),
     Edit("filter/gate", "(c.flags / 4 % 2 == 1)", "(c.flags / 4 % 4 == 1)"),
     Edit("segments/between", "if luma { 1 } else { 2 }", "if luma { 1 } else { 1 }"),
-    Edit("segments/between", "if !v.same {", "if !v.same && k.luma {"),
-    Edit("segments/between", "if f.tc == 0 {\n            return", "if f.tc == 0 && f.beta == 0 {\n            return",
+    Edit("segments/between", "|| !v.same {", "|| (!v.same && input.component.luma) {"),
+    Edit("segments/between", "(f.tc > 0).then_some(SegmentFilter::Luma", "(f.tc > 0 || f.beta > 0).then_some(SegmentFilter::Luma",
          "with tc 0 the luma filter, whatever its decision, leaves every sample as it is (theorem tc-zero)"),
-    Edit("segments/between", "if f.tc == 0 {\n        return", "if f.tc == 0 && f.largest == 0 {\n        return",
+    Edit("segments/between", "(f.tc > 0).then_some(SegmentFilter::Chroma", "(f.tc > 0 || f.largest > 0).then_some(SegmentFilter::Chroma",
          "with tc 0 the chroma filter leaves every sample as it is (theorem chroma-tc-zero)"),
     Edit("picture/slices", "beta: 6,", "beta: 5,"),
     Edit("picture/slices", "across: true,", "across: false,",
          "filter across of the empty list's record cannot show: all cells have slice number 0 (theorem across-unseen)"),
-    Edit("picture/cells", "256 * wide(cells[at + 5])", "wide(cells[at + 5])"),
+    Edit("picture/cells", "u16::from_le_bytes([cells[at + 4], cells[at + 5]])", "(cells[at + 4] as u16) + (cells[at + 5] as u16)"),
 ]
 
 TILES_AND_POSITIONS = [
     Edit("picture/tiles", "same_tile(starts, p.0, q.0)", "same_tile(starts, q.0, q.0)"),
     Edit("picture/tiles", "same_tile(starts, p, q)", "same_tile(starts, q, q)"),
-    Edit("picture/tiles", "if starts[i] as usize <= ctb {", "if (starts[i] as usize) < ctb {"),
-    Edit("picture/tiles", "if p == q {", "if p == q && p == 0 {", "the lookup that is then made finds one tile for one CTB"),
-    Edit("segments/neighbours", "LumaColumn(x.0 - 1)", "LumaColumn(x.0)"),
-    Edit("segments/neighbours", "let above = y - 1;", "let above = y;"),
-    Edit("picture/rows", "if format == 1 {\n        return 2 * row;", "if format == 1 && row < 8 {\n        return 2 * row;"),
+    Edit("picture/tiles", "**start as usize <= ctb", "(**start as usize) < ctb"),
+    Edit("picture/tiles", "p == q || ", "(p == q && p == 0) || ",
+         "the lookup that is then made finds one tile for one CTB"),
+    Edit("segments/direction", "LumaColumn(q.x.0 - 1)", "LumaColumn(q.x.0)"),
+    Edit("segments/direction", "y: q.y - 1", "y: q.y"),
+    Edit("picture/rows", "if format == 1 {", "if format == 1 && row < 8 {"),
     Edit("picture/columns", "LumaColumn(2 * self.0)", "LumaColumn(self.0)"),
-    Edit("segments/at", "luma_row_at(k, l + 1);\n    let v", "luma_row_at(k, l);\n    let v",
+    # The position that 89, 90 and 91 mistake is the edge flag's too.
+    Edit("segments/direction", "luma_row_at(k, l + 1)", "luma_row_at(k, l)",
          "the first and the second sample of a segment lie in one cell in every format (theorem second-sample)"),
-    Edit("segments/at", "luma_row_at(k, l + 1);\n    let v", "luma_row_at(k, l + 2);\n    let v"),
-    Edit("segments/at", "luma_column_at(k, l + 1);\n    let y = luma_row_at(k, e);\n    let v",
-         "luma_column_at(k, l + 2);\n    let y = luma_row_at(k, e);\n    let v"),
-    Edit("segments/at", "segment_filter(slices, tcs, k, v, q.bsv)", "segment_filter(slices, tcs, k, v, q.bsh)"),
-    Edit("segments/at", "x, y) / 2 % 2 == 1", "x, y) % 2 == 1"),
+    Edit("segments/direction", "luma_row_at(k, l + 1)", "luma_row_at(k, l + 2)"),
+    Edit("segments/direction", "luma_column_at(k, l + 1)", "luma_column_at(k, l + 2)"),
+    Edit("segments/direction", "q.bsv", "q.bsh"),
+    Edit("segments/direction", "q.flags / 2 % 2 == 1", "q.flags % 2 == 1"),
 ]
 
 PASSES = [
-    Edit("strips/vertical", "let mut e = 8;", "let mut e = 16;"),
-    Edit("strips/vertical", "while e < f.columns {", "while e + 8 < f.columns {"),
-    Edit("vertical_pass/lib", "r += 4;", "r += 8;"),
-    Edit("horizontal_pass/lib", "let mut e = (row0 / 8 + 1) * 8;", "let mut e = (row0 / 8 + 2) * 8;"),
-    Edit("horizontal_pass/lib", "while e < row1 {", "while e + 8 < row1 {"),
-    Edit("strips/horizontal", "while x < f.columns {", "while x + 4 < f.columns {"),
-    Edit("filter/bands", "        row + height\n", "        row + 4\n",
+    Edit("strips/vertical", "(8..input.frame.columns)", "(16..input.frame.columns)"),
+    Edit("strips/vertical", "(8..input.frame.columns)", "(8..input.frame.columns.saturating_sub(8))"),
+    Edit("vertical_pass/lib", ".step_by(4)", ".step_by(8)"),
+    Edit("horizontal_pass/lib", "(row0 / 8 + 1) * 8", "(row0 / 8 + 2) * 8"),
+    Edit("horizontal_pass/lib", "(first..row1)", "(first..row1.saturating_sub(8))"),
+    Edit("strips/horizontal", "(0..input.frame.columns)", "(0..input.frame.columns.saturating_sub(4))"),
+    Edit("filter/bands", "(row + height).min(total)", "if row + height < total { row + 4 } else { total }",
          "vertical bands of any number of whole segments give the same planes, by the contract of vertical_band"),
-    Edit("filter/bands", "least(target + 4 - m, total)", "least(target + 8 - m, total)"),
-    Edit("stage/plane", "Direction::Vertical => vertical_pass", "Direction::Vertical => horizontal_pass"),
-    Edit("stage/plane", "        rows,\n        tcs,\n        Direction::Horizontal,",
-         "        columns,\n        tcs,\n        Direction::Horizontal,"),
+    Edit("filter/bands", "target + 4 - m", "target + 8 - m"),
+    Edit("stage/plane", "    vertical_pass(out", "    horizontal_pass(out"),
+    Edit("stage/plane", "rows: picture.rows,", "rows: picture.columns,"),  # the vertical pass does not read them
     Edit("stage/components", "depth: settings.chroma_depth,", "depth: settings.luma_depth,"),
     Edit("stage/components", "largest: largest_at(settings.chroma_depth),", "largest: largest_at(settings.luma_depth),"),
     Edit("stage/driver", "biased_offset(settings.cr_qp_offset)", "biased_offset(settings.cb_qp_offset)"),
-    Edit("stage/plane", "        to[i] = from[i];", "        to[i + 1] = from[i];"),
+    Edit("stage/plane", "    out.copy_from_slice(original);", "    for i in 0..original.len() {\n        out[i + 1] = original[i];\n    }"),
 ]
 
+VERTICAL, HORIZONTAL = "    vertical_pass(out, &input);\n", "    horizontal_pass(out, &input);\n"
+RESTORED = "    restore(out, original, cells, r, k, f);\n"
 RESTORATION = [
-    Edit("stage/plane", "    restore(out, original, cells, r, k, f);", "    if let Direction::Horizontal = d {\n"
-         "        restore(out, original, cells, r, k, f);\n    }"),
-    Edit("stage/plane", "    restore(out, original, cells, r, k, f);", "    if let Direction::Vertical = d {\n"
-         "        restore(out, original, cells, r, k, f);\n    }"),
+    Edit("stage/plane", VERTICAL + RESTORED, VERTICAL),
+    Edit("stage/plane", HORIZONTAL + RESTORED, HORIZONTAL),
     Edit("restore/plane", "row_of_cells(luma_row_at(k, y))", "row_of_cells(y)"),
     Edit("restore/rows", "line[end - 1] = d;", "line[end - 1] = c;"),
     Edit("restore/rows", "let suppressed = sample_suppressed(cells, pcm, n);", "let suppressed = sample_suppressed(cells, true, n);"),
-    Edit("restore/marks", "let mut n = 0;", "let mut n = 1;", "no edge moves a sample of the first cell, so it needs no restoring"),
-    Edit("restore/marks", "let mut n = 0;", "let mut n = 2;"),
+    Edit("restore/marks", "(0..cells.len() / 8)", "(1..cells.len() / 8)",
+         "no edge moves a sample of the first cell, so it needs no restoring"),
+    Edit("restore/marks", "(0..cells.len() / 8)", "(2..cells.len() / 8)"),
 ]
 
 CHECKS = [
-    Edit("checks/settings", "(8192 < n)", "(8200 < n)"),
+    Edit("checks/settings", "(8..=8192)", "(8..=8200)"),
     Edit("checks/settings", "(n % 8 != 0)", "(n % 4 != 0)"),
     Edit("checks/settings", "3 < settings.chroma_format", "4 < settings.chroma_format"),
-    Edit("checks/settings", "(depth < 8)", "(depth < 7)"),
-    Edit("checks/settings", "(16 < depth)", "(17 < depth)"),
-    Edit("checks/settings", "(settings.log2_ctb < 4)", "(settings.log2_ctb < 3)"),
-    Edit("checks/settings", "(12 < offset)", "(13 < offset)"),
+    Edit("checks/settings", "(8..=16)", "(7..=16)"),
+    Edit("checks/settings", "(8..=16)", "(8..=17)"),
+    Edit("checks/settings", "(4..=6)", "(3..=6)"),
+    Edit("checks/settings", "(-12..=12)", "(-12..=13)"),
     Edit("checks/lengths", "(cr != chroma)", "(cr < chroma)"),
     Edit("checks/lengths", "=> bad_planes(settings, y, cb, cr),", "=> bad_planes(settings, y, cb, cb),"),
     Edit("checks/lengths", "(2400 < slices)", "(2404 < slices)"),
@@ -181,61 +195,33 @@ CHECKS = [
     Edit("list_checks/tiles", "starts[k] <= starts[k - 1]", "starts[k] < starts[k - 1]"),
     Edit("list_checks/tiles", "ctbs <= starts[k] as u32", "ctbs < starts[k] as u32"),
     Edit("list_checks/tiles", "(total + size - 1) / size", "total / size"),
-    Edit("list_checks/tiles", "columns.len() + first_bad_start(rows, size, settings.height)",
-         "columns.len() + first_bad_start(rows, size, settings.width)"),
+    Edit("list_checks/tiles", "first_bad_start(rows, size, settings.height)", "first_bad_start(rows, size, settings.width)"),
     Edit("list_checks/cells", "115 - (least as u32)", "116 - (least as u32)"),
     Edit("list_checks/cells", "(64 - 6 * (depth - 8)) as u8", "(63 - 6 * (depth - 8)) as u8"),
     Edit("list_checks/cells", "{ 2 } else { 0 }", "{ 3 } else { 0 }"),
     Edit("list_checks/cells", "(31 < cell.flags)", "(63 < cell.flags)"),
-    Edit("list_checks/cells", "slice_end(count) <= (slice as usize)", "slice_end(count) < (slice as usize)"),
+    Edit("list_checks/cells", "count.min(65536) <= (slice as usize)", "count.min(65536) < (slice as usize)"),
     Edit("list_checks/cells", "16777216 * (seventh as usize)", "16777216 * ((seventh / 2) as usize)"),
     Edit("list_checks/samples", "if largest < plane[k] {", "if largest <= plane[k] {"),
-    Edit("list_checks/samples", "while k < 256 {", "while k < 255 {"),
-    Edit("list_checks/samples", "return y.len() + in_cb;", "return in_cb;"),
+    Edit("list_checks/samples", "256 * *n + 256]", "256 * *n + 255]"),
+    Edit("list_checks/samples", "Some(planes.y.len() + k)", "Some(k)"),
     Edit("ledger/settings", "if bad_sizes(settings) {", "if bad_sizes(settings) && !bad_format(settings) {"),
-    Edit("ledger/lists", "if slice < slices.len() / 4 {",
-         "if slice < slices.len() / 4 && first_bad_tile(settings, columns, rows) == columns.len() + rows.len() {"),
-    Edit("ledger/numbers", "Verdict::TileStart(_) => 8,", "Verdict::TileStart(_) => 7,"),
-    Edit("stage/driver", "    let Verdict::Accepted = answer else {", "    if 0 < outy.len() { outy[0] = 0; } let Verdict::Accepted = answer else {"),
+    Edit("ledger/lists", "        return Err(Refusal::Slice(record));",
+         "        if first_bad_tile(settings, picture.columns, picture.rows).is_none() {\n"
+         "            return Err(Refusal::Slice(record));\n        }"),
+    Edit("ledger/numbers", "Refusal::TileStart(_) => 8,", "Refusal::TileStart(_) => 7,"),
+    Edit("stage/driver", "    check(picture, Some(lent))?;",
+         "    if 0 < outy.len() {\n        outy[0] = 0;\n    }\n    check(picture, Some(lent))?;"),
     Edit("tinladle/deblock", "*place = place_of(answer);", "*place = 0;"),
 ]
 
 # Document 01, 'Mistakes the port must not make', but offsets from P's slice, which stand above.
 MISTAKES = [
     Edit("thresholds/luma", "(p as u32) + (q as u32) + 1)", "(p as u32) + (q as u32) + (if p < 64 && q < 64 { 2 } else { 1 }))"),
-    Edit("thresholds/chroma", "} else if 119 < index {", "} else if 133 < index {"),
-    Edit("stage/plane", """        columns,
-        tcs,
-        Direction::Vertical,
-        k,
-        f,
-        r,
-    );
-    step(
-        out,
-        original,
-        cells,
-        slices,
-        rows,
-        tcs,
-        Direction::Horizontal,
-""", """        rows,
-        tcs,
-        Direction::Horizontal,
-        k,
-        f,
-        r,
-    );
-    step(
-        out,
-        original,
-        cells,
-        slices,
-        columns,
-        tcs,
-        Direction::Vertical,
-"""),
-    Edit("segments/between", "if !v.same {", "let q = v.q;\n    if !v.same || q.flags / 4 % 2 == 1 {"),
+    Edit("thresholds/chroma", "} else if 119 < index {",
+         "} else if 119 < index && index <= 133 {\n        31 + (index - 106) / 2 + 76\n    } else if 119 < index {"),
+    Edit("stage/plane", VERTICAL + RESTORED + HORIZONTAL, HORIZONTAL + RESTORED + VERTICAL),
+    Edit("segments/between", "|| !v.same {", "|| !v.same || v.q.flags / 4 % 2 == 1 {"),
     Edit("luma_windows/luma", "filter_turned(s, base, along, d, t);", """for j in 0..4 {
         let at = base + j * along;
         let l = take_line(s, at, 1);
@@ -248,7 +234,7 @@ EMPTY_LIST = [
     Edit("picture/slices", "tc: 5,", "tc: 6,"),
     Edit("picture/slices", "tc: 5,", "tc: 4,"),
     Edit("picture/slices", "disabled: false,", "disabled: true,"),
-    Edit("picture/slices", "if slices.len() == 0 {", "if slices.len() <= 4 {"),
+    Edit("picture/slices", "if slices.is_empty() {", "if slices.len() <= 4 {"),
 ]
 
 # The palette cells of document 02's C-19: the bit without a meaning, the PCM switch asked for it, another bit, luma (and 4:4:4) alone, and
@@ -267,9 +253,7 @@ PALETTE = [
 # record; and a pass of its own, after the ranges or before them.
 LEFT, TOP = "bad_strength(cell.bsv, cell.flags % 2 == 1)", "bad_strength(cell.bsh, cell.flags / 2 % 2 == 1)"
 LARGEST = "if edge { 2 } else { 0 }"
-BEGIN = """    let mut n = 0;
-    while n < cells.len() / 8 {
-"""
+BEGIN = "    (0..cells.len() / 8).find("
 RULE = [
     Edit("list_checks/cells", LARGEST, "if edge { 2 } else { 2 }"),
     Edit("list_checks/cells", TOP, "bad_strength(cell.bsh, true)"),
@@ -287,22 +271,18 @@ RULE = [
     Edit("list_checks/cells", LEFT, "(cell.flags % 2 != 1)"),
     Edit("list_checks/cells", "cell.flags / 2 % 2 == 1", "0 < cell.flags / 2"),
     Edit("list_checks/cells", TOP, f"({TOP} & (0 < n))"),
-    Edit("list_checks/cells", BEGIN, """    let mut k = 0;
-    while k < cells.len() / 8 {
+    Edit("list_checks/cells", BEGIN, """    for k in 0..cells.len() / 8 {
         let c = cell_at(cells, k);
         if bad_qp(c.qp, least) | (31 < c.flags) | (2 < c.bsv) | (2 < c.bsh) | bad_tail(c.slice, cells[8 * k + 6], cells[8 * k + 7], count) {
-            return k;
+            return Some(k);
         }
-        k += 1;
     }
 """ + BEGIN),
-    Edit("list_checks/cells", BEGIN, """    let mut k = 0;
-    while k < cells.len() / 8 {
+    Edit("list_checks/cells", BEGIN, """    for k in 0..cells.len() / 8 {
         let c = cell_at(cells, k);
         if ((0 < c.bsv) & (c.flags % 2 == 0)) | ((0 < c.bsh) & (c.flags / 2 % 2 == 0)) {
-            return k;
+            return Some(k);
         }
-        k += 1;
     }
 """ + BEGIN),
 ]
@@ -324,9 +304,9 @@ CONVERSION = [
          "    if horizontal < cells[at + 3] { cells[at + 1] = 0; }\n    cells[at + 3] = horizontal;"),
     Edit("conversion/strengths", "if edge { bs } else { 0 }", "if edge | (bs == 1) { bs } else { 0 }"),
     Edit("conversion/strengths", "if edge { bs } else { 0 }", "if edge | (2 < bs) { bs } else { 0 }"),
-    Edit("conversion/strengths", "let mut n = 0;", "let mut n = 1;"),
-    Edit("conversion/strengths", "while n < cells.len() / 8 {", "while n + 1 < cells.len() / 8 {"),
-    Edit("conversion/strengths", "while n < cells.len() / 8 {", "while n < (cells.len() + 4) / 8 {"),
+    Edit("conversion/strengths", "0..cells.len() / 8 {", "1..cells.len() / 8 {"),
+    Edit("conversion/strengths", "0..cells.len() / 8 {", "0..(cells.len() / 8).saturating_sub(1) {"),
+    Edit("conversion/strengths", "0..cells.len() / 8 {", "0..(cells.len() + 4) / 8 {"),
     Edit("conversion/strengths", "out.copy_from_slice(cells);", """let whole = cells.len() / 8 * 8;
     out[..whole].copy_from_slice(&cells[..whole]);"""),
     Edit("conversion/strengths", "if cells.len() != out.len() {", "if out.len() < cells.len() {"),
@@ -341,41 +321,37 @@ CONVERSION = [
 CONVERTER = [
     Edit("conversion_run/parts", "const PART: usize = 32768;", "const PART: usize = 32764;"),
     Edit("conversion_run/parts", "(got == n)", "(n < got)"),
-    Edit("conversion_run/parts", "output.write_all(made).is_ok()", "output.write_all(&made[..made.len() / 8 * 8]).is_ok()"),
-    Edit("conversion_run/parts", "let got = fill(input, errors, &mut asked[..n]);",
-         "let got = (fill(input, errors, &mut asked[..n]) + 7) / 8 * 8;"),
-    Edit("conversion_run/parts", "if more == 0 {\n            return done;",
+    Edit("conversion_run/parts", ".write_all(made)", ".write_all(&made[..made.len() / 8 * 8])"),
+    Edit("conversion_run/parts", "let got = fill(input, errors, list);", "let got = (fill(input, errors, list) + 7) / 8 * 8;"),
+    Edit("conversion_run/parts", "if more == 0 {\n            break;",
          "if done + more < list.len() {\n            return done + more;"),
-    Edit("conversion_run/parts", """        Ok(got) => got,
-        Err(_) => {
-            say(errors, b"the input could not be read\\n");
-            0
-        }""", """        Ok(got) => {
-            say(errors, b"the input could not be read\\n");
-            got
-        }
-        Err(_) => 0,"""),
-    Edit("conversion_run/parts", "if !is_written {", "if !is_written & (list.len() == 0) {"),
+    Edit("conversion_run/parts", '.inspect_err(|_| say(errors, b"the input', '.inspect(|_| say(errors, b"the input'),
+    Edit("conversion_run/parts", 'say(errors, b"the output could not be written\\n")',
+         '{\n            if list.len() == 0 {\n                say(errors, b"the output could not be written\\n");\n            }\n        }'),
 ]
 
 # The counts of document 02's C-20, which the bench prints: the flags the other way round, or not asked; one side's flag for the other;
 # a skip that says 1, a strong side that says 2 or 4; Q's count printed for P's, or P's before tc; and the counts of another decision
 # where tc is 0.
 NONE, STRONG = "SideCounts { p: 0, q: 0 }", "SideCounts { p: 3, q: 3 }"
-PRINTED = """at, tc, 32);
-    let third = put_number_then(out, second, p, 32);"""
+PRINTED = """tc, b' ');
+    out.push_number_then(p, b' ');"""
+MADE = """p: 1 + u8::from(do_p1),
+            q: 1 + u8::from(do_q1),"""
 COUNTS = [
-    Edit("lines/counts", "if flag { 2 } else { 1 }", "if flag { 1 } else { 2 }"),
-    Edit("lines/counts", "if flag { 2 } else { 1 }", "if flag { 2 } else { 2 }"),
-    Edit("lines/counts", "p: weak_count(do_p1)", "p: weak_count(do_q1)"),
-    Edit("lines/counts", "q: weak_count(do_q1)", "q: weak_count(do_p1)"),
+    Edit("lines/counts", MADE, """p: 2 - u8::from(do_p1),
+            q: 2 - u8::from(do_q1),"""),
+    Edit("lines/counts", MADE, """p: 2,
+            q: 2,"""),
+    Edit("lines/counts", "u8::from(do_p1)", "u8::from(do_q1)"),
+    Edit("lines/counts", "u8::from(do_q1)", "u8::from(do_p1)"),
     Edit("lines/counts", NONE, "SideCounts { p: 1, q: 0 }"),
     Edit("lines/counts", NONE, "SideCounts { p: 0, q: 1 }"),
     Edit("lines/counts", STRONG, "SideCounts { p: 2, q: 3 }"),
     Edit("lines/counts", STRONG, "SideCounts { p: 3, q: 4 }"),
     Edit("bench_lines/lib", "c.p as u16", "c.q as u16"),
-    Edit("bench_lines/lib", PRINTED, """at, p, 32);
-    let third = put_number_then(out, second, tc, 32);"""),
+    Edit("bench_lines/lib", PRINTED, """p, b' ');
+    out.push_number_then(tc, b' ');"""),
     Edit("bench/segment", "lines::with_counts(LumaDecision::Skip)",
          "lines::LumaAnswer { decision: LumaDecision::Skip, counts: lines::with_counts(LumaDecision::Strong).counts }"),
 ]
@@ -383,11 +359,11 @@ COUNTS = [
 # How far samples moved (document 02, C-23), which far_pictures prints: the last of equally far ones, the first place left out, the place
 # after, half of the distance, moves up alone; a refusal's place, and one plane for another.
 FARTHEST = [
-    Edit("moves/lib", "if distance < d {", "if distance <= d {"),
-    Edit("moves/lib", "let mut k = 0;", "let mut k = 1;", "the first sample of a plane lies before every edge and never moves"),
-    Edit("moves/lib", "place = k;", "place = k + 1;"),
-    Edit("moves/lib", "distance = d;", "distance = d / 2;"),
-    Edit("moves/lib", "abs_diff(a as u32, b as u32)", "if a < b { (b - a) as u32 } else { 0 }"),
+    Edit("moves/lib", "if farthest.distance < distance {", "if farthest.distance <= distance {"),
+    Edit("moves/lib", "in 0..before.len()", "in 1..before.len()", "the first sample of a plane lies before every edge and never moves"),
+    Edit("moves/lib", "Move { distance, place }", "Move { distance, place: place + 1 }"),
+    Edit("moves/lib", "Move { distance, place }", "Move { distance: distance / 2, place }"),
+    Edit("moves/lib", "a.abs_diff(b) as u32", "if a < b { (b - a) as u32 } else { 0 }"),
     Edit("picture_text/farthest", 'put_number_then(place_of(verdict), b"\\n")', 'put_number_then(0, b"\\n")'),
     Edit("picture_text/farthest", 'put_move(far.cb, b" ")', 'put_move(far.cr, b" ")'),
     Edit("picture_run/pictures", "cr: farthest_move(cr, outcr)", "cr: farthest_move(cb, outcb)"),
@@ -411,25 +387,20 @@ CHECKSUM = [
     Edit("checksum/plane", "wrapping_add_u32(before, byte ^ mask)", "wrapping_add_u32(before, byte ^ mask) % 2147483648"),
     Edit("checksum/plane", "while x < width {", "while x + 1 < width {"),
     Edit("checksum/plane", "while y < height {", "while y + 1 < height {"),
-    Edit("checksum/planes", "settings.width, settings.height, settings.luma_depth", "settings.height, settings.width, settings.luma_depth"),
-    Edit("checksum/planes", "settings.luma_depth)", "settings.chroma_depth)"),
+    Edit("checksum/planes", "settings.width,\n        settings.height,", "settings.height,\n        settings.width,"),
+    Edit("checksum/planes", "settings.luma_depth", "settings.chroma_depth"),
     Edit("checksum/planes", "down as u32, settings.chroma_depth", "down as u32, settings.luma_depth"),
     Edit("checksum/planes", "across.0 as u32, down as u32", "down as u32, across.0 as u32"),
-    Edit("checksum/planes", "cb: chroma_checksum(settings, cb)", "cb: chroma_checksum(settings, cr)"),
+    Edit("checksum/planes", "cb: chroma_checksum(settings, planes.cb)", "cb: chroma_checksum(settings, planes.cr)"),
 ]
 
 # Their checks: 6 before 3, 10 before 6, 3 before 1 and 2; the depths not looked at in format 0; a plane's length taken for another's. And their C
 # function: a place not stored, or 0; a refusal that writes; Cb's sum in format 0; two sums, or the two depths, exchanged.
-FORMAT = """    let answer = check_format(settings);
-    let Verdict::Accepted = answer else {
-        return answer;
-    };
-"""
-DEPTHS, LENGTHS = (f"    if bad_{name} {{\n        return Verdict::{verdict};\n    }}\n" for name, verdict in [
-    ("depths(settings)", "Depth"), ("planes(settings, y.len(), cb.len(), cr.len())", "Lengths")])
-SAMPLES = """    let sample = first_bad_original(settings, y, cb, cr);
-    if sample < y.len() + (cb.len() + cr.len()) {
-        return Verdict::Sample(sample);
+FORMAT = "    check_format(settings)?;\n"
+DEPTHS, LENGTHS = (f"    if bad_{name} {{\n        return Err(Refusal::{refusal});\n    }}\n" for name, refusal in [
+    ("depths(settings)", "Depth"), ("planes(settings, planes.y.len(), planes.cb.len(), planes.cr.len())", "Lengths")])
+SAMPLES = """    if let Some(sample) = first_bad_original(settings, planes) {
+        return Err(Refusal::Sample(sample));
     }
 """
 CHECKED = [
@@ -437,7 +408,7 @@ CHECKED = [
     Edit("ledger/planes", LENGTHS + SAMPLES, SAMPLES + LENGTHS),
     Edit("ledger/planes", FORMAT + DEPTHS, DEPTHS + FORMAT),
     Edit("ledger/planes", "if bad_depths(settings) {", "if bad_depths(settings) & (0 < settings.chroma_format) {"),
-    Edit("ledger/planes", "y.len(), cb.len(), cr.len())", "y.len(), cb.len(), cb.len())"),
+    Edit("ledger/planes", "planes.cb.len(), planes.cr.len())", "planes.cb.len(), planes.cb.len())"),
     Edit("tinladle/sums", "*place = 0;", "*place = *place;"),
     Edit("tinladle/sums", "*place = place_of(verdict);", "*place = 0;"),
     Edit("tinladle/sums", "*place = place_of(verdict);", "*place = place_of(verdict);\n            *sum_y = 0;"),
@@ -452,7 +423,7 @@ CHECKED = [
 SUMMED = [
     Edit("picture_run/pictures", "picture_checksums(settings(head), y, cb, cr)", "picture_checksums(settings(head), y, cr, cb)"),
     Edit("picture_text/sums", "put_answer(number_of(verdict), place_of(verdict),", "put_answer(number_of(verdict), 0,"),
-    Edit("picture_text/words", "put_hex_then(word as u64, 8, end)", "put_hex_then(word as u64, 7, end)"),
+    Edit("picture_text/words", "-> Hex<8>", "-> Hex<7>"),
 ]
 FINISHED = [
     Edit("picture_run/pictures", "picture_checksums(settings, outy, outcb, outcr)", "picture_checksums(settings, outy, outcr, outcb)"),
@@ -469,12 +440,13 @@ PARTS = [
     Edit("float_samples/parts", "let half = middle(depth);", "let half: u16 = 0;"),
     Edit("float_samples/parts", "-over(depth, half - sample)", "over(depth, half - sample)"),
     Edit("float_samples/parts", "if sample < half {", "if sample <= half {"),
-    Edit("float_samples/parts", "    if chroma {", "    if chroma & (depth < 16) {"),
-    Edit("float_samples/parts", "luma: part(luma_depth, false, y)", "luma: part(luma_depth, true, y)"),
-    Edit("float_samples/parts", "luma: part(luma_depth, false, y)", "luma: part(chroma_depth, false, y)"),
-    Edit("float_samples/parts", "cb: part(chroma_depth, true, cb)", "cb: part(luma_depth, true, cb)"),
-    Edit("float_samples/parts", "cb: part(chroma_depth, true, cb)", "cb: part(chroma_depth, true, cr)"),
-    Edit("float_samples/parts", "cr: part(chroma_depth, true, cr)", "cr: part(chroma_depth, false, cr)"),
+    Edit("float_samples/parts", "    let half = middle(depth);",
+         "    if depth == 16 {\n        return luma_part(depth, sample);\n    }\n    let half = middle(depth);"),
+    Edit("float_samples/parts", "luma: luma_part(luma_depth, y)", "luma: chroma_part(luma_depth, y)"),
+    Edit("float_samples/parts", "luma: luma_part(luma_depth, y)", "luma: luma_part(chroma_depth, y)"),
+    Edit("float_samples/parts", "cb: chroma_part(chroma_depth, cb)", "cb: chroma_part(luma_depth, cb)"),
+    Edit("float_samples/parts", "cb: chroma_part(chroma_depth, cb)", "cb: chroma_part(chroma_depth, cr)"),
+    Edit("float_samples/parts", "cr: chroma_part(chroma_depth, cr)", "cr: luma_part(chroma_depth, cr)"),
 ]
 
 # The way back: negative zero taken; floats between two samples taken; samples lost by the scaling, the truncation and its two ends;
@@ -482,7 +454,7 @@ PARTS = [
 # another number, a place not stored, a sample beside a refusal.
 HELD = "a sample's float has the same candidate, and a candidate is taken only where it gives the float bit for bit"
 WAY_BACK = [
-    Edit("float_samples/way_back", "f32::to_bits(a) == f32::to_bits(b)", "a == b"),
+    Edit("float_samples/way_back", "a.to_bits() == b.to_bits()", "a == b"),
     Edit("float_samples/way_back", "if same(given, value) {", "if given <= value {"),
     Edit("float_samples/way_back", "if same(given, value) {", "if value <= given {"),
     Edit("float_samples/way_back", "if same(given, value) {", "if given == given {"),
@@ -492,16 +464,16 @@ WAY_BACK = [
     Edit("float_samples/way_back", "if scaled > -1.0 {", "if scaled > 0.0 {"),
     Edit("float_samples/way_back", "if scaled < 18446744073709551616.0 {", "if scaled < 65535.0 {"),
     Edit("float_samples/way_back", "if scaled < 18446744073709551616.0 {", "if scaled < 65536.0 {", HELD),
-    Edit("float_samples/way_back", "return half - n;", "return half + n;"),
-    Edit("float_samples/way_back", "return half + n;", "return half - n;"),
-    Edit("float_samples/way_back", "        if n <= half {\n            return half - n;",
-         "        if n < half {\n            return half - n;"),
+    Edit("float_samples/way_back", "half.checked_sub(", "half.checked_add("),
+    Edit("float_samples/way_back", "half.checked_add(", "half.checked_sub("),
+    Edit("float_samples/way_back", "half.checked_sub(whole_part(depth, -value)?)",
+         "half.checked_sub(whole_part(depth, -value)?).filter(|s| 0 < *s)"),
     Edit("float_samples/way_back", "    if chroma {", "    if chroma & (depth < 16) {"),
     Edit("float_samples/way_back", "if s < power(depth) as u64 {", "if s <= power(depth) as u64 {"),
     Edit("float_samples/way_back", "if s < power(depth) as u64 {", "if s < 65536 {"),
     Edit("float_samples/way_back", "if s < power(depth) as u64 {", "if s + 1 < power(depth) as u64 {"),
-    Edit("recogniser/way_back", "return Recovered::Depth;", "return Recovered::NoSample;"),
-    Edit("recogniser/way_back", "Found::Nothing => Recovered::NoSample", "Found::Nothing => Recovered::Sample(0)"),
+    Edit("recogniser/way_back", "SampleRefusal::Depth", "SampleRefusal::NoSample"),
+    Edit("recogniser/way_back", "find_sample(depth, chroma, value).ok_or(SampleRefusal::NoSample)", "Ok(find_sample(depth, chroma, value).unwrap_or(0))"),
     Edit("recogniser/way_back", "find_sample(depth, chroma, value)", "find_sample(depth, chroma & (value < 0.5), value)"),
     Edit("tinladle/recovered", "*place = 0;", "*place = *place;"),
     Edit("tinladle/recovered", "Recovered::NoSample => 15,", "Recovered::NoSample => 14,"),
@@ -515,14 +487,10 @@ WAY_BACK = [
 # grey by the other depth; a column or row past the end taken; 14 before the planes' checks. And its C function: a place not stored, or 0;
 # 15 for 14; what is stored beside a refusal, and of Cb in format 0; two parts, or the two depths, exchanged.
 OUTSIDE = """    if is_outside(settings, column, row) {
-        return Pixel::Outside;
+        return Err(PixelRefusal::Outside);
     }
 """
-VERDICT = """    let verdict = check_planes(settings, y, cb, cr);
-    let Verdict::Accepted = verdict else {
-        return Pixel::Refused(verdict);
-    };
-"""
+VERDICT = "    check_planes(settings, planes)?;\n"
 ASKED = [
     Edit("recogniser/pixels", "    y * width + x\n", "    y * width + x + 1\n"),
     Edit("recogniser/pixels", "    y * width + x\n", "    x * width + y\n"),
@@ -532,7 +500,7 @@ ASKED = [
     Edit("recogniser/pixels", "chroma_rows(settings.chroma_format, row as usize)", "row as usize"),
     Edit("recogniser/pixels", "index_of(width.0, x, y)", "index_of(settings.width as usize, x, y)"),
     Edit("recogniser/pixels", "LumaColumn(column as usize)", "LumaColumn(column as usize + 1)"),
-    Edit("recogniser/pixels", "        cb[index],\n        cr[index],\n", "        cr[index],\n        cb[index],\n"),
+    Edit("recogniser/pixels", "planes.cb[index],\n        planes.cr[index],", "planes.cr[index],\n        planes.cb[index],"),
     Edit("recogniser/pixels", "part(settings.luma_depth, false, luma)", "part(settings.chroma_depth, false, luma)"),
     Edit("recogniser/pixels", "(settings.width <= column)", "(settings.width < column)"),
     Edit("recogniser/pixels", "(settings.height <= row)", "(settings.height < row)"),
