@@ -20,7 +20,7 @@ FILE = "crates/thresholds/src/luma_table.rt"
 HEAD = """\
 // The luma tc at depth 8, for average QP 0 to 51, bS 1 and 2, tc div2 -6 to 6 (document 02, C-18). The entries go by
 // average QP, then by bS, then by tc div2. Made by oracle/luma_table.py; proved to be the table, entry for entry.
-ghost use Rattle·thresholds·specs.specs.LumaTable.{TcTable};
+ghost use Rattle.thresholds.specs.LumaTable.{TcTable};
 
 const LUMA_TC: [u8; 1352] = [
 """
@@ -30,7 +30,7 @@ TAIL = """\
 
 // The array is laid out anew at each call, so a caller with many looks calls this once and lends it.
 pub fn luma_tc_table() -> [u8; 1352]
-    ensures { λ r. ⌜ TcTable r ⌝ }
+    ensures { TcTable result }
 {
     LUMA_TC
 }
