@@ -85,10 +85,6 @@ WINDOWS = [
     Edit("chroma_windows/chroma", "put_pair(s, at + 1, l.p0, l.q0)", "put_pair(s, at + 1, l.p0, l.q1)"),
 ]
 
-MOVED = """    ((x as u32) + d)
-        .min(65536 + (largest as u32))
-        .saturating_sub(65536) as u16
-"""
 LINES = [
     Edit("lines/strong", "let d = tc.saturating_add(tc);", "let d = tc;"),
     Edit("lines/strong", "2 * (d as u32) + (e as u32) + 4) >> 3", "2 * (d as u32) + (e as u32) + 3) >> 3"),
@@ -101,10 +97,9 @@ LINES = [
     Edit("lines/weak", "(x0 as u32) + 1) >> 1;", "(x0 as u32)) >> 1;"),
     Edit("lines/weak", "l.q2, l.q1, l.q0, e),", "l.q2, l.q1, l.q0, d),"),
     Edit("lines/delta", "d.min(65536 + w)", "d.min(65537 + w)"),
-    Edit("lines/delta", MOVED, """    let s = ((x as u32) + d).min(65536 + (largest as u32));
-    if s < 65530 { 0 } else { (s - 65536) as u16 }
-"""),
-    Edit("lines/delta", ".min(65536 + (largest as u32))", ".min(131071)"),
+    Edit("lines/delta", "    ((x as u32) + d).saturating_sub(65536).min(largest as u32) as u16",
+         "    let s = ((x as u32) + d).min(65536 + (largest as u32));\n    if s < 65530 { 0 } else { (s - 65536) as u16 }"),
+    Edit("lines/delta", ".min(largest as u32)", ".min(65535)"),
     Edit("lines/chroma", "524292", "524291"),
     Edit("lines/chroma", "(4 * (l.p0 as u32) + (l.q1 as u32))", "(4 * (l.p0 as u32) + (l.p1 as u32))"),
 ]
@@ -327,7 +322,7 @@ CONVERTER = [
          "if done + more < list.len() {\n            return done + more;"),
     Edit("conversion_run/parts", '.inspect_err(|_| say(errors, b"the input', '.inspect(|_| say(errors, b"the input'),
     Edit("conversion_run/parts", 'say(errors, b"the output could not be written\\n")',
-         '{\n            if list.len() == 0 {\n                say(errors, b"the output could not be written\\n");\n            }\n        }'),
+         '{\n            if list.len() == 0 {\n                say(errors, b"the output could not be written\\n")\n            }\n        }'),
 ]
 
 # The counts of document 02's C-20, which the bench prints: the flags the other way round, or not asked; one side's flag for the other;
@@ -358,16 +353,18 @@ COUNTS = [
 
 # How far samples moved (document 02, C-23), which far_pictures prints: the last of equally far ones, the first place left out, the place
 # after, half of the distance, moves up alone; a refusal's place, and one plane for another.
+REFUSED = "put_refused(output, number, refusal)"
+WITHOUT_PLACE = 'writeln!(output, "{number} {} 0", refusal.number())'
 FARTHEST = [
     Edit("moves/lib", "if farthest.distance < distance {", "if farthest.distance <= distance {"),
     Edit("moves/lib", "in 0..before.len()", "in 1..before.len()", "the first sample of a plane lies before every edge and never moves"),
     Edit("moves/lib", "Move { distance, place }", "Move { distance, place: place + 1 }"),
     Edit("moves/lib", "Move { distance, place }", "Move { distance: distance / 2, place }"),
     Edit("moves/lib", "a.abs_diff(b) as u32", "if a < b { (b - a) as u32 } else { 0 }"),
-    Edit("picture_text/farthest", 'put_number_then(place_of(verdict), b"\\n")', 'put_number_then(0, b"\\n")'),
-    Edit("picture_text/farthest", 'put_move(far.cb, b" ")', 'put_move(far.cr, b" ")'),
-    Edit("picture_run/pictures", "cr: farthest_move(cr, outcr)", "cr: farthest_move(cb, outcb)"),
-    Edit("picture_run/pictures", "y: farthest_move(y, outy)", "y: farthest_move(outy, outy)"),
+    Edit("picture_text/farthest", REFUSED, WITHOUT_PLACE),
+    Edit("picture_text/farthest", "let cb = self.cb;", "let cb = self.cr;"),
+    Edit("picture_text/farthest", "cr: farthest_move(before.cr, after.cr)", "cr: farthest_move(before.cb, after.cb)"),
+    Edit("picture_text/farthest", "y: farthest_move(before.y, after.y)", "y: farthest_move(after.y, after.y)"),
 ]
 
 # The checksums of document 02's C-11: no high bytes in the mask, no row in it, or the row after; the high part at depth 8 too, left out at
@@ -410,8 +407,8 @@ CHECKED = [
     Edit("ledger/planes", "if bad_depths(settings) {", "if bad_depths(settings) & (0 < settings.chroma_format) {"),
     Edit("ledger/planes", "planes.cb.len(), planes.cr.len())", "planes.cb.len(), planes.cb.len())"),
     Edit("tinladle/sums", "*place = 0;", "*place = *place;"),
-    Edit("tinladle/sums", "*place = place_of(verdict);", "*place = 0;"),
-    Edit("tinladle/sums", "*place = place_of(verdict);", "*place = place_of(verdict);\n            *sum_y = 0;"),
+    Edit("tinladle/sums", "*place = refusal.place();", "*place = 0;"),
+    Edit("tinladle/sums", "*place = refusal.place();", "*place = refusal.place();\n            *sum_y = 0;"),
     Edit("tinladle/sums", "*sum_y = luma;\n            0", "*sum_y = luma;\n            *sum_cb = 0;\n            0"),
     Edit("tinladle/sums", "*sum_cb = blue;\n            *sum_cr = red;", "*sum_cb = red;\n            *sum_cr = blue;"),
     Edit("tinladle/sums", "planes_settings(width, height, chroma_format, luma_depth, chroma_depth)",
@@ -421,14 +418,19 @@ CHECKED = [
 # What the programs print of them: Cb and Cr exchanged, of given planes and of finished ones; the originals for the finished planes; a
 # refusal's place 0, and seven digits.
 SUMMED = [
-    Edit("picture_run/pictures", "picture_checksums(settings(head), y, cb, cr)", "picture_checksums(settings(head), y, cr, cb)"),
-    Edit("picture_text/sums", "put_answer(number_of(verdict), place_of(verdict),", "put_answer(number_of(verdict), 0,"),
+    Edit("picture_run/runs", "picture_checksums(record.picture.settings, &record.picture.planes)", """{
+            let given = record.picture.planes;
+            let exchanged = picture::Planes { y: given.y, cb: given.cr, cr: given.cb };
+            picture_checksums(record.picture.settings, &exchanged)
+        }"""),
+    Edit("picture_text/sums", REFUSED, WITHOUT_PLACE),
     Edit("picture_text/words", "-> Hex<8>", "-> Hex<7>"),
 ]
 FINISHED = [
-    Edit("picture_run/pictures", "picture_checksums(settings, outy, outcb, outcr)", "picture_checksums(settings, outy, outcr, outcb)"),
-    Edit("picture_run/pictures", "finished_checksums(settings, verdict, outy, outcb, outcr)",
-         "finished_checksums(settings, verdict, y, cb, cr)"),
+    Edit("picture_run/stages", "picture_checksums(settings, out)",
+         "picture_checksums(settings, &Planes { y: out.y, cb: out.cr, cr: out.cb })"),
+    Edit("picture_run/runs", "finished_checksums(record.picture.settings, verdict, out)",
+         "finished_checksums(record.picture.settings, verdict, &record.picture.planes)"),
 ]
 
 # The float of a sample (C-22): over 2^depth - 1; chroma with another middle or none, without its sign, or below 0 at the middle; luma by
@@ -473,13 +475,14 @@ WAY_BACK = [
     Edit("float_samples/way_back", "if s < power(depth) as u64 {", "if s < 65536 {"),
     Edit("float_samples/way_back", "if s < power(depth) as u64 {", "if s + 1 < power(depth) as u64 {"),
     Edit("recogniser/way_back", "SampleRefusal::Depth", "SampleRefusal::NoSample"),
-    Edit("recogniser/way_back", "find_sample(depth, chroma, value).ok_or(SampleRefusal::NoSample)", "Ok(find_sample(depth, chroma, value).unwrap_or(0))"),
+    Edit("recogniser/way_back", "find_sample(depth, chroma, value).ok_or(SampleRefusal::NoSample)",
+         "Ok(find_sample(depth, chroma, value).unwrap_or(0))"),
     Edit("recogniser/way_back", "find_sample(depth, chroma, value)", "find_sample(depth, chroma & (value < 0.5), value)"),
     Edit("tinladle/recovered", "*place = 0;", "*place = *place;"),
-    Edit("tinladle/recovered", "Recovered::NoSample => 15,", "Recovered::NoSample => 14,"),
-    Edit("tinladle/recovered", "Recovered::Depth => 3,", "Recovered::Depth => 15,"),
-    Edit("tinladle/recovered", "Recovered::NoSample => 15,",
-         "Recovered::NoSample => {\n            *sample = 0;\n            15\n        }"),
+    Edit("tinladle/recovered", "Err(SampleRefusal::NoSample) => 15,", "Err(SampleRefusal::NoSample) => 14,"),
+    Edit("tinladle/recovered", "Err(SampleRefusal::Depth) => 3,", "Err(SampleRefusal::Depth) => 15,"),
+    Edit("tinladle/recovered", "Err(SampleRefusal::NoSample) => 15,",
+         "Err(SampleRefusal::NoSample) => {\n            *sample = 0;\n            15\n        }"),
     Edit("tinladle/recovered", "*sample = found;", "*sample = if found < 65535 { found } else { 0 };"),
 ]
 
@@ -508,30 +511,30 @@ ASKED = [
          "(settings.width <= row) | (settings.height <= column)"),
     Edit("recogniser/pixels", VERDICT + OUTSIDE, OUTSIDE + VERDICT),
     Edit("tinladle/pixels", "*place = 0;", "*place = *place;"),
-    Edit("tinladle/pixels", "*place = place_of(verdict);", "*place = 0;"),
-    Edit("tinladle/pixels", "Pixel::Outside => 14,", "Pixel::Outside => 15,"),
-    Edit("tinladle/pixels", "Pixel::Outside => 14,", "Pixel::Outside => {\n            *luma = 0.0;\n            14\n        }"),
-    Edit("tinladle/pixels", "*place = place_of(verdict);", "*place = place_of(verdict);\n            *cr_part = 0.0;"),
+    Edit("tinladle/pixels", "*place = refusal.place();", "*place = 0;"),
+    Edit("tinladle/pixels", "Err(PixelRefusal::Outside) => 14,", "Err(PixelRefusal::Outside) => 15,"),
+    Edit("tinladle/pixels", "Err(PixelRefusal::Outside) => 14,",
+         "Err(PixelRefusal::Outside) => {\n            *luma = 0.0;\n            14\n        }"),
+    Edit("tinladle/pixels", "*place = refusal.place();", "*place = refusal.place();\n            *cr_part = 0.0;"),
     Edit("tinladle/pixels", "*luma = grey;", "*luma = grey;\n            *cb_part = grey;"),
     Edit("tinladle/pixels", "*cb_part = parts.cb;\n            *cr_part = parts.cr;",
          "*cb_part = parts.cr;\n            *cr_part = parts.cb;"),
     Edit("tinladle/pixels", "planes_settings(width, height, chroma_format, luma_depth, chroma_depth)",
          "planes_settings(width, height, chroma_format, chroma_depth, luma_depth)"),
-    Edit("tinladle/pixels", "pixel_at(settings, y, cb, cr, column, row)", "pixel_at(settings, y, cb, cr, row, column)"),
+    Edit("tinladle/pixels", "&Planes { y, cb, cr }, column, row)", "&Planes { y, cb, cr }, row, column)"),
 ]
 
 # What the gate's programs print of them: column and row exchanged, a pixel outside told as 15, Cb before luma; of a float the other kind,
 # a NaN's pattern taken for a number, 14 for 15.
 SHOWN = [
-    Edit("picture_run/pictures", "word(&at, 0), word(&at, 1)", "word(&at, 1), word(&at, 0)"),
-    Edit("picture_text/floats", 'Pixel::Outside => put_answer(14, 0, b"\\n")', 'Pixel::Outside => put_answer(15, 0, b"\\n")'),
-    Edit("picture_text/floats", "put_three(bits_of(parts.luma), bits_of(parts.cb), bits_of(parts.cr))",
-         "put_three(bits_of(parts.cb), bits_of(parts.luma), bits_of(parts.cr))"),
+    Edit("picture_run/runs", "word(&at, 0), word(&at, 1)", "word(&at, 1), word(&at, 0)"),
+    Edit("picture_text/floats", "{number} 14 0", "{number} 15 0"),
+    Edit("picture_text/floats", "{luma} {cb} {cr}", "{cb} {luma} {cr}"),
 ]
 READ = [
     Edit("float_cases/main", "word(&words, 1) != 0", "word(&words, 1) == 1"),
     Edit("float_cases/main", "return 0.0 / 0.0;", "return 0.0;"),
-    Edit("picture_text/floats", 'Recovered::NoSample => put_answer(15, 0, b"\\n")', 'Recovered::NoSample => put_answer(14, 0, b"\\n")'),
+    Edit("picture_text/floats", "{number} 15 0", "{number} 14 0"),
 ]
 
 
