@@ -322,7 +322,8 @@ CONVERTER = [
          "if done + more < list.len() {\n            return done + more;"),
     Edit("conversion_run/parts", '.inspect_err(|_| say(errors, b"the input', '.inspect(|_| say(errors, b"the input'),
     Edit("conversion_run/parts", 'say(errors, b"the output could not be written\\n")',
-         '{\n            if list.len() == 0 {\n                say(errors, b"the output could not be written\\n")\n            }\n        }'),
+         '{\n            if list.len() == 0 {\n'
+         '                say(errors, b"the output could not be written\\n");\n            }\n        }'),
 ]
 
 # The counts of document 02's C-20, which the bench prints: the flags the other way round, or not asked; one side's flag for the other;
