@@ -73,14 +73,14 @@ DECISION = [
 ]
 
 WINDOWS = [
-    Edit("window_lines/rows", "base + across, a.p2, b.p2, c.p2, d.p2)", "base + across, a.p2, c.p2, b.p2, d.p2)"),
-    Edit("window_lines/rows", "a.q2, b.q2, c.q2, d.q2)", "a.q2, b.q2, c.q2, c.q2)"),
+    Edit("window_lines/rows", "base + across, [a.p2, b.p2, c.p2, d.p2]", "base + across, [a.p2, c.p2, b.p2, d.p2]"),
+    Edit("window_lines/rows", "[a.q2, b.q2, c.q2, d.q2]", "[a.q2, b.q2, c.q2, c.q2]"),
     Edit("luma_windows/rows", "across, v);",
          "across, Lines { l0: v.l0, l1: v.l1, l2: v.l2, l3: weak_line(t.largest, t.tc, do_q1, do_p1, w.l3) });"),
     Edit("window_lines/line", "take_line(s, base + 2 * along, across)", "take_line(s, base + along, across)"),
     Edit("luma_windows/turned", "take_line(&t[..], j, 4)", "take_line(&t[..], 3 - j, 4)"),
     Edit("luma_windows/luma", "if let LumaDecision::Skip = d {", "if let LumaDecision::Strong = d {"),
-    Edit("chroma_windows/chroma", "at + across, a.p0, b.p0, c.p0, d.p0)", "at + across, a.p0, c.p0, b.p0, d.p0)"),
+    Edit("chroma_windows/chroma", "at + across, [a.p0, b.p0, c.p0, d.p0]", "at + across, [a.p0, c.p0, b.p0, d.p0]"),
     Edit("chroma_windows/chroma", "let at = base + 2 * across;", "let at = base + 1 * across;"),
     Edit("chroma_windows/chroma", "put_pair(s, at + 1, l.p0, l.q0)", "put_pair(s, at + 1, l.p0, l.q1)"),
 ]
@@ -371,20 +371,23 @@ FARTHEST = [
 # The checksums of document 02's C-11: no high bytes in the mask, no row in it, or the row after; the high part at depth 8 too, left out at
 # 9, left out everywhere, joined without the mask, or the low byte twice; a sum that starts at 1, or is kept modulo 2^31; the last column or
 # row left out; width and height exchanged, of luma and of chroma; one component's depth for the other's; Cb for Cr.
-MASK = "folded(x) ^ row"
 CHECKSUM = [
     Edit("checksum/plane", "(n % 256) ^ (n / 256)", "n % 256"),
-    Edit("checksum/plane", MASK, "folded(x)"),
+    Edit("checksum/plane", "folded(x) ^ row", "folded(x)"),
     Edit("checksum/plane", "let row = folded(y);", "let row = folded(y + 1);"),
     Edit("checksum/plane", "if depth <= 8 {", "if depth < 8 {"),
     Edit("checksum/plane", "if depth <= 8 {", "if depth <= 9 {"),
     Edit("checksum/plane", "if depth <= 8 {", "if depth <= 16 {"),
-    Edit("checksum/plane", MASK, f"if high {{ 0 }} else {{ {MASK} }}"),
+    Edit("checksum/plane", "    with_parts(low, plane, start, width, row, |sample| sample as u32 / 256)", """    let mut sum = low;
+    for x in 0..width {
+        sum = with_byte(sum, plane[start + x as usize] as u32 / 256, 0);
+    }
+    sum"""),
     Edit("checksum/plane", "sample as u32 / 256", "sample as u32 % 256"),
     Edit("checksum/plane", "let mut sum = 0;", "let mut sum = 1;"),
-    Edit("checksum/plane", "wrapping_add_u32(before, byte ^ mask)", "wrapping_add_u32(before, byte ^ mask) % 2147483648"),
-    Edit("checksum/plane", "while x < width {", "while x + 1 < width {"),
-    Edit("checksum/plane", "while y < height {", "while y + 1 < height {"),
+    Edit("checksum/plane", "before.wrapping_add(byte ^ mask)", "before.wrapping_add(byte ^ mask) % 2147483648"),
+    Edit("checksum/plane", "for x in 0..width {", "for x in 0..width.saturating_sub(1) {"),
+    Edit("checksum/plane", "for y in 0..height {", "for y in 0..height.saturating_sub(1) {"),
     Edit("checksum/planes", "settings.width,\n        settings.height,", "settings.height,\n        settings.width,"),
     Edit("checksum/planes", "settings.luma_depth", "settings.chroma_depth"),
     Edit("checksum/planes", "down as u32, settings.chroma_depth", "down as u32, settings.luma_depth"),
