@@ -1,11 +1,7 @@
 -- Tests of a list, or'd together one after another, as the code tries them.
-use mathlib.Core.Path.{◌≡◌, refl, sym, ap, ap₂, ◌∙◌}
+use mathlib.Core.Path.{◌≡◌, refl, sym, ap₂, ◌∙◌}
 use mathlib.Core.Bool.{Bool, true, false, ◌||◌}
 use mathlib.Core.List.{List, [], ◌∷◌, ◌++◌}
-use lib.IntN.{ℤ, pos, negsuc}
-use lib.Signed.{lt_z}
-use Rattle.ints.specs.Int.{neg, lt}
-use Rattle.picture.specs.Causes.{bad_offset}
 use Rattle.picture.specs.Ledger.{any_of}
 
 abbrev pub or_from : Bool → List Bool → Bool
@@ -45,9 +41,3 @@ any_more l m e = any_rest _ m ∙ any_both l m e refl
 pub any_of_lem : (l : List Bool) → or_of l ≡ any_of l
 any_of_lem [] = refl
 any_of_lem (b ∷ r) = any_more (b ∷ []) r (one_test b)
-
--- the two tests of an offset z, as they read it from a signed local
-pub offset_tests : (z : ℤ) {x : ℤ} → x ≡ z → (lt_z x (negsuc 11) || lt_z (pos 12) x) ≡ any_of (bad_offset z)
-unfolding lt neg
-offset_tests z e =
-    ap (λ (t : ℤ). lt_z t (negsuc 11) || lt_z (pos 12) t) e ∙ any_of_lem (lt_z z (negsuc 11) ∷ lt_z (pos 12) z ∷ [])

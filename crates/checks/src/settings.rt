@@ -10,7 +10,7 @@ use picture::Settings;
 fn bad_size(n: u32) -> bool
     ensures { result ≡ any_of (bad_size n) }
 {
-    (n % 8 != 0) | (n < 8) | (8192 < n)
+    (n % 8 != 0) | !(8..=8192).contains(&n)
 }
 
 // 1. The width or the height is not allowed.
@@ -31,7 +31,7 @@ pub fn bad_format(settings: Settings) -> bool
 pub fn bad_depth(depth: u32) -> bool
     ensures { result ≡ any_of (bad_depth depth) }
 {
-    (depth < 8) | (16 < depth)
+    !(8..=16).contains(&depth)
 }
 
 // 3. A depth is outside 8 to 16, in every format.
@@ -45,14 +45,14 @@ pub fn bad_depths(settings: Settings) -> bool
 pub fn bad_ctb(settings: Settings) -> bool
     ensures { result ≡ any_of (bad_ctb (settings_of settings)) }
 {
-    (settings.log2_ctb < 4) | (6 < settings.log2_ctb)
+    !(4..=6).contains(&settings.log2_ctb)
 }
 
 // A chroma offset outside −12 to 12.
 fn bad_offset(offset: i32) -> bool
     ensures { result ≡ any_of (bad_offset offset) }
 {
-    (offset < -12) | (12 < offset)
+    !(-12..=12).contains(&offset)
 }
 
 // 5. A chroma offset is outside −12 to 12, in every format.

@@ -1,23 +1,20 @@
 -- The answer of a ledger, entry by entry: a cause that applies gives it, and one that does not leaves it to the rest.
-use Prim.Native.Nat.{ℕ, ◌*◌, ◌/◌, ◌≤◌, ◌<◌}
+use Prim.Native.Nat.{ℕ, ◌≤◌, ◌<◌}
 use mathlib.Core.Path.{◌≡◌, refl, sym, ap, ◌∙◌}
 use mathlib.Core.Bool.{Bool, true, false, cond}
 use mathlib.Core.List.{List, [], ◌∷◌, ◌++◌}
 use native.Mathlib.Omega.{arith}
 use lib.Dec.{ltb}
-use lib.ListN.{length}
-use Rattle.std.specs.Prelude.{Option, Some, Result, Ok, Err}
+use Rattle.std.specs.Prelude.{Result, Ok, Err}
 use Rattle.picture.specs.Causes.{Rule, bad_ctb, bad_depths, bad_lists, bad_planes, bad_size}
-use Rattle.picture.specs.Causes.{cause1, cause6, cause9, cells_cause, ledger}
-use Rattle.picture.specs.Cell.{cell_count}
+use Rattle.picture.specs.Causes.{cause1, cause6, ledger}
 use Rattle.picture.specs.declared.Settings as Code
 use Rattle.picture.specs.Given.{bare, picture_of, settings_of}
-use Rattle.picture.specs.Ledger.{Cause, Entry, Verdict, any_of, entry, first_of, first_place, once, place_of}
+use Rattle.picture.specs.Ledger.{Entry, Verdict, any_of, entry, first_of, once, place_of}
 use Rattle.picture.specs.Picture.{Picture, Planes}
-use Rattle.picture.proofs.Ledger.{AllGood, AllNumbered, Good, NoneOf, good_out, none_out, none_part, once_out}
-use Rattle.picture.proofs.Ledger.{passed, returned, to_fact}
+use Rattle.picture.proofs.Ledger.{AllGood, AllNumbered, Good, good_out, none_out, none_part, once_out}
+use Rattle.picture.proofs.Ledger.{passed, to_fact}
 use Rattle.checks.specs.Lengths.{bad_lengths}
-use Rattle.list_checks.proofs.Places.{no_place, not_some, some_place}
 use Rattle.ledger.specs.declared.Refusal.{Refusal}
 use Rattle.ledger.specs.Numbered.{numbered, refused}
 use Rattle.ledger.specs.Parts.{Settled, lists_part, settings_part}
@@ -46,27 +43,6 @@ module _ (tests : List Bool) {b : Bool} (e : b ≡ any_of tests) {v : Verdict} {
   goes_on h =
       let fails : any_of tests ≡ false = sym e ∙ h in
       record { answer = rw fails at left.answer }
-
--- ---- a cause whose first bad entry was looked for
-
-module _ (c : Cause) {k : Option ℕ} (e : k ≡ first_place c) {v : Verdict} {n : ℕ} {r : List Entry}
-    (left : LeftTo v (entry n c ∷ r)) where
-  pub stops_at : {i : ℕ} → k ≡ Some i → record { number = n; place = i } ≡ v
-  stops_at {i} some =
-      let p = some_place c (sym e ∙ some) in
-      ap (λ (j : ℕ). record { number = n; place = j }) p.0
-      ∙ sym (left.answer ∙ returned c n r (omega (arith, p.0, p.1)))
-
-  pub goes_past : ((i : ℕ) → k ≡ Some i → ⊥) → LeftTo v r
-  goes_past none = record { answer = left.answer ∙ passed c n r (no_place c (sym e ∙ not_some none)) }
-
--- a cell list of its exact length
-pub cells_place : (rules : List Rule) (p : Picture) → length p.cells ≡ 8 * cell_count p → {k : Option ℕ}
-    → k ≡ first_place (cells_cause rules p.settings.luma_depth p.slices p.cells (length p.cells / 8))
-    → k ≡ first_place (cause9 rules p)
-cells_place rules p h e =
-    let count : length p.cells / 8 ≡ cell_count p = omega arith in
-    e ∙ ap (λ (m : ℕ). first_place (cells_cause rules p.settings.luma_depth p.slices p.cells m)) count
 
 -- ---- the ledger's first entries and the others
 
@@ -119,10 +95,6 @@ pub sizes_fit : (s : Code.Settings) → Good (cause1 (bare s)) → (s.width ≤ 
 sizes_fit s good =
     let h = once_out (bad_size s.width ++ bad_size s.height) good in
     search to_fact depth 1
-
-pub depths_fit : (s : Code.Settings) → NoneOf (bad_depths (settings_of s))
-    → (s.luma_depth ≤ 16) × (s.chroma_depth ≤ 16)
-depths_fit s h = search to_fact depth 1
 
 module _ (s : Code.Settings) (good : AllGood (settings_part (bare s))) where
   pub sizes : (s.width ≤ 8192) × (s.height ≤ 8192)

@@ -1,4 +1,4 @@
--- A search for the first bad entry of a cause: the entries passed are all good.
+-- The first bad entry of a cause as an option: by its place, as `find` tells it, and of two causes one after another.
 use Prim.Native.Nat.{ℕ, ◌+◌, ◌≤◌, ◌<◌}
 use mathlib.Core.Path.{◌≡◌, refl, sym, ap, ◌∙◌}
 use mathlib.Core.Bool.{true, false}
@@ -51,7 +51,7 @@ found_first c (Some i) h = found_at c h.1 (λ k hk. h.3 k (omega arith) hk) h.2
 
 -- ---- the first place of two causes: in the first, or past all of it in the second
 
-pub not_some : {r : Option ℕ} → ((n : ℕ) → r ≡ Some n → ⊥) → r ≡ None
+not_some : {r : Option ℕ} → ((n : ℕ) → r ≡ Some n → ⊥) → r ≡ None
 not_some {r = Some n} h = absurd (h n refl)
 not_some {r = None} h = refl
 
@@ -73,7 +73,3 @@ module _ (c d : Cause) {r s : Option ℕ} (e : r ≡ first_place c) (f : s ≡ f
 
     pub in_neither : s ≡ None → None ≡ first_place (and_then c d)
     in_neither none2 = place_none (and_then c d) (then_in c d good (no_place d (sym f ∙ none2)))
-
-    -- a place in the second is among its entries
-    pub place_below : {n : ℕ} → s ≡ Some n → n < d.count
-    place_below some = (some_place d (sym f ∙ some)).1

@@ -1,58 +1,22 @@
--- The bytes of slice and cell records and the tile starts, as the checks read them.
-use Prim.Native.Nat.{ℕ, zero, suc, ◌+◌, ◌-◌, ◌*◌, ◌/◌, ◌%◌, ◌≤◌, ◌<◌, min}
+-- The bytes of cell records, as the checks read them.
+use Prim.Native.Nat.{ℕ, ◌+◌, ◌-◌, ◌*◌, ◌/◌, ◌%◌, ◌≤◌, ◌<◌}
 use mathlib.Core.Path.{◌≡◌, refl, sym, ap, ◌∙◌}
-use mathlib.Core.Bool.{Bool, true, false, cond, not, ◌||◌, and-false, and-true}
+use mathlib.Core.Bool.{Bool, true, false, ◌||◌}
 use mathlib.Core.List.{List, [], ◌∷◌, ◌++◌}
 use mathlib.Core.Logic.{◌⊎◌, inl, inr}
-use native.Mathlib.Nat.{add-zero, div-one}
+use native.Mathlib.Nat.{div-one}
 use native.Mathlib.Omega.{arith}
-use borrow.Author.Tests.{lt-ltb, le-ltb, lt-leb, le-leb, ne_eqb}
-use lib.Dec.{leb, ltb, eqb}
-use lib.ListN.{length, get_or}
+use borrow.Author.Tests.{lt-ltb, le-ltb}
+use lib.Dec.{ltb, eqb}
 use Rattle.ints.proofs.Laws.{either}
-use Rattle.picture.specs.Causes.{Rule, bad_cell, bad_order, bad_slice, broken, cell_rules, cells_cause, edgeless}
+use Rattle.picture.specs.Causes.{Rule, bad_cell, broken, cell_rules, cells_cause, edgeless}
 use Rattle.picture.specs.Cell.{cell_at, cell_byte}
 use Rattle.picture.specs.declared.Cell.{Cell}
 use Rattle.picture.specs.Ledger.{Cause, any_of, first_place}
-use Rattle.picture.specs.Slice.{slice_byte, slice_count}
+use Rattle.picture.specs.Slice.{slice_count}
 use Rattle.picture.proofs.Accepted.{qp_low_test, qp_high_test}
 use Rattle.list_checks.specs.Cells.{bad_qp_byte, bad_record, bad_strength, bad_tail}
-use Rattle.checks.proofs.Tests.{any_both, any_same, one_test}
-
--- ---- slices
-
-pub count_none : (l : List ℕ) → length l ≡ 0 → 1 ≡ slice_count l
-count_none [] e = refl
-count_none (x ∷ r) e = absurd (omega arith)
-
-pub count_some : (l : List ℕ) → (length l ≡ 0 → ⊥) → length l / 4 ≡ slice_count l
-count_some [] h = absurd (h refl)
-count_some (x ∷ r) h = refl
-
--- the tests of a record that lies in the list
-abbrev pub slice_tests : List ℕ → ℕ → List Bool
-slice_tests l at =
-    ltb 1 (get_or l at 0)
-    ∷ ltb 12 (get_or l (at + 1) 0)
-    ∷ ltb 12 (get_or l (at + 2) 0)
-    ∷ ltb 1 (get_or l (at + 3) 0)
-    ∷ []
-
-pub slice_tests_lem : (l : List ℕ) (n : ℕ) → 4 * n + 4 ≤ length l
-    → any_of (slice_tests l (4 * n)) ≡ any_of (bad_slice (slice_byte l n))
-slice_tests_lem [] n h = absurd (omega arith)
-slice_tests_lem (x ∷ r) n h = rw add-zero
-
--- ---- tile starts
-
-pub order_first : (l : List ℕ) (k : ℕ) → k ≡ 0 → not (eqb (get_or l k 0) 0) ≡ bad_order l k
-order_first l k e = rw e
-
-pub order_later : (l : List ℕ) (k : ℕ) → (k ≡ 0 → ⊥) → leb (get_or l k 0) (get_or l (k - 1) 0) ≡ bad_order l k
-order_later l zero h = absurd (h refl)
-order_later l (suc k) h = ap (λ (i : ℕ). leb (get_or l (suc k) 0) (get_or l i 0)) (omega arith)
-
--- ---- cells
+use Rattle.checks.proofs.Tests.{any_both, any_same}
 
 -- the least QP byte of a depth
 abbrev pub least_byte : ℕ → ℕ
@@ -64,48 +28,6 @@ records_cause rules least count cells m = record {
   count = m;
   bad = λ n. any_of (bad_record least count cells n ++ broken rules (cell_byte cells n));
 }
-
--- the tests as the code tries them: how far a QP byte lies above the least one, around the end of a byte
-pub qp_tests : (least qp : ℕ) → least ≤ 115 → qp < 256
-    → ltb (115 - least) ((256 + qp - least) % 256) ≡ any_of (bad_qp_byte least qp)
-qp_tests least qp low byte = go (either qp least) (either 115 qp)
-  where
-    go : (qp < least) ⊎ (least ≤ qp) → (115 < qp) ⊎ (qp ≤ 115)
-        → ltb (115 - least) ((256 + qp - least) % 256) ≡ any_of (bad_qp_byte least qp)
-    go (inl l) _ = rw (lt-ltb qp least l) (lt-ltb (115 - least) ((256 + qp - least) % 256) (omega arith))
-    go (inr l) (inl h) =
-        rw (le-ltb qp least l, lt-ltb 115 qp h) (lt-ltb (115 - least) ((256 + qp - least) % 256) (omega arith))
-    go (inr l) (inr h) =
-        rw (le-ltb qp least l, le-ltb 115 qp h) (le-ltb (115 - least) ((256 + qp - least) % 256) (omega arith))
-
--- a strength beside the largest one
-pub strength_tests : (edge : Bool) (bs : ℕ) → ltb (cond edge 2 0) bs ≡ any_of (bad_strength edge bs)
-strength_tests true bs = rw (and-false (ltb 0 bs)) (one_test (ltb 2 bs))
-strength_tests false bs = rw (and-true (ltb 0 bs)) (go (either 2 bs))
-  where
-    go : (2 < bs) ⊎ (bs ≤ 2) → ltb 0 bs ≡ any_of (ltb 2 bs ∷ ltb 0 bs ∷ [])
-    go (inl h) = rw (lt-ltb 2 bs h) (lt-ltb 0 bs (omega arith))
-    go (inr h) = rw (le-ltb 2 bs h) (one_test (ltb 0 bs))
-
--- a slice number with the two bytes above it
-pub tail_tests : (count slice sixth seventh : ℕ) → slice < 65536
-    → leb (min count 65536) (slice + 65536 * sixth + 16777216 * seventh) ≡ any_of (bad_tail count slice sixth seventh)
-tail_tests count slice sixth seventh small = go (either slice count) sixth seventh
-  where
-    go : (slice < count) ⊎ (count ≤ slice) → (sixth seventh : ℕ)
-        → leb (min count 65536) (slice + 65536 * sixth + 16777216 * seventh)
-        ≡ any_of (bad_tail count slice sixth seventh)
-    go (inr h) sixth seventh =
-        rw (le-leb count slice h)
-        (le-leb (min count 65536) (slice + 65536 * sixth + 16777216 * seventh) (omega arith))
-    go (inl h) zero zero =
-        rw (lt-leb count slice h) (lt-leb (min count 65536) (slice + 65536 * 0 + 16777216 * 0) (omega arith))
-    go (inl h) zero (suc z) =
-        rw (lt-leb count slice h, ne_eqb (suc z) 0 (omega arith))
-        (le-leb (min count 65536) (slice + 65536 * 0 + 16777216 * suc z) (omega arith))
-    go (inl h) (suc z) seventh =
-        rw (lt-leb count slice h, ne_eqb (suc z) 0 (omega arith))
-        (le-leb (min count 65536) (slice + 65536 * suc z + 16777216 * seventh) (omega arith))
 
 -- the tests of a record: a strength's range beside its rule, and the rules after the ranges
 regrouped : (q f v w h k t : Bool)

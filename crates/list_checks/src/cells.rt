@@ -1,5 +1,5 @@
 // Cause 9 of the ledger: the cell records.
-ghost use Rattle.std.specs.Prelude.{◌+◌, ◌*◌, ◌/◌, ◌≤◌, min, cond, ◌++◌, ◌≡◌, length};
+ghost use Rattle.std.specs.Prelude.{◌+◌, ◌*◌, ◌/◌, ◌≤◌, cond, ◌++◌, ◌≡◌, length};
 ghost use Rattle.picture.specs.Causes.{broken, cell_rules, cells_cause};
 ghost use Rattle.picture.specs.Cell.{cell_byte};
 ghost use Rattle.picture.specs.Ledger.{any_of, first_place};
@@ -31,19 +31,12 @@ fn bad_strength(bs: u8, edge: bool) -> bool
     largest_bs(edge) < bs
 }
 
-// The least number that is no slice's, where there are `count` slices; their numbers have 16 bits.
-fn slice_end(count: usize) -> usize
-    ensures { result ≡ min count 65536 }
-{
-    if count < 65536 { count } else { 65536 }
-}
-
 // A slice number is not below the number of slice records, or one of the two bytes after it is not 0. These bytes stand
 // above its 16 bits, so that one test tells all three.
 fn bad_tail(slice: u16, sixth: u8, seventh: u8, count: usize) -> bool
     ensures { result ≡ any_of (bad_tail count slice sixth seventh) }
 {
-    slice_end(count) <= (slice as usize) + 65536 * (sixth as usize) + 16777216 * (seventh as usize)
+    count.min(65536) <= (slice as usize) + 65536 * (sixth as usize) + 16777216 * (seventh as usize)
 }
 
 // Cell record n is out of range or against C-14's rule. One test for each field, since this runs for every cell.
