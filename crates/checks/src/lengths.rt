@@ -1,4 +1,5 @@
-// Cause 6 of the ledger: the lengths. The sizes were checked before, so that the products fit.
+// Cause 6 of the ledger: the lengths. The sizes were checked before, so that the products fit. Each function asks for
+// their bound by itself: README names this crate, and a type that held the bound would ask more of its callers.
 ghost use Rattle.std.specs.Prelude.{◌≤◌, ◌≡◌};
 ghost use Rattle.picture.specs.Causes.{bad_cells};
 ghost use Rattle.picture.specs.Given.{bare};
@@ -15,7 +16,8 @@ pub enum OutputLengths {
     Cells(usize),
 }
 
-// One of three planes, of y, cb and cr samples, is not of its exact length.
+// One of three planes, of y, cb and cr samples, is not of its exact length. They are given by their lengths and not as
+// `Planes`, since output planes are lent by `&mut`.
 pub fn bad_planes(settings: Settings, y: usize, cb: usize, cr: usize) -> bool
     requires { (settings.width ≤ 8192) × (settings.height ≤ 8192) }
     ensures { result ≡ any_of (plane_tests (bare settings) y cb cr) }

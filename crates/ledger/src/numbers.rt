@@ -1,4 +1,4 @@
-// An answer as two numbers, for a caller that has no such enum.
+// An answer as two numbers, for C, which has no such enum.
 ghost use Rattle.std.specs.Prelude.{◌≡◌};
 ghost use Rattle.ledger.specs.Numbered.{numbered, refused};
 
