@@ -4,7 +4,7 @@ ghost use Rattle.picture.specs.Lent.{picture_given};
 ghost use Rattle.tinladle.specs.Passed.{Deblocked, passed};
 
 use ledger::{number_of, place_of};
-use picture::Settings;
+use picture::{Picture, Planes, Settings};
 use stage::apply_deblocking;
 
 // The number is returned, 0 where the picture is accepted; the place is always stored, so that a caller never reads
@@ -38,30 +38,25 @@ pub extern "C" fn tinladle_deblock(
         tile_rows.now)
         (planes_of out_y.old out_cb.old out_cr.old) result place.new (planes_of out_y.new out_cb.new out_cr.new) }
 {
-    let settings = Settings {
-        width: width,
-        height: height,
-        chroma_format: chroma_format,
-        luma_depth: luma_depth,
-        chroma_depth: chroma_depth,
-        log2_ctb: log2_ctb,
-        cb_qp_offset: cb_qp_offset,
-        cr_qp_offset: cr_qp_offset,
-        pcm_loop_filter_disabled: pcm_loop_filter_disabled,
-    };
-    let answer = apply_deblocking(
-        settings,
-        y,
-        cb,
-        cr,
+    let picture = Picture {
+        settings: Settings {
+            width,
+            height,
+            chroma_format,
+            luma_depth,
+            chroma_depth,
+            log2_ctb,
+            cb_qp_offset,
+            cr_qp_offset,
+            pcm_loop_filter_disabled,
+        },
+        planes: Planes { y, cb, cr },
         cells,
         slices,
-        tile_columns,
-        tile_rows,
-        out_y,
-        out_cb,
-        out_cr,
-    );
+        columns: tile_columns,
+        rows: tile_rows,
+    };
+    let answer = apply_deblocking(&picture, out_y, out_cb, out_cr);
     *place = place_of(answer);
     number_of(answer)
 }

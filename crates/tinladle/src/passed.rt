@@ -15,11 +15,11 @@ pub(crate) fn planes_settings(
     ensures { result ≡ passed_planes width height chroma_format luma_depth chroma_depth }
 {
     Settings {
-        width: width,
-        height: height,
-        chroma_format: chroma_format,
-        luma_depth: luma_depth,
-        chroma_depth: chroma_depth,
+        width,
+        height,
+        chroma_format,
+        luma_depth,
+        chroma_depth,
         log2_ctb: 0,
         cb_qp_offset: 0,
         cr_qp_offset: 0,

@@ -5,8 +5,8 @@ ghost use Rattle.tinladle.specs.Floats.{PixelStored};
 ghost use Rattle.tinladle.specs.Passed.{passed_planes};
 
 use crate::passed::planes_settings;
-use ledger::{number_of, place_of};
-use recogniser::{Pixel, pixel_at};
+use picture::Planes;
+use recogniser::{Pixel, PixelRefusal, pixel_at};
 
 // The number is returned, 0 where the pixel is given, and the place is always stored. Of a monochrome picture luma
 // alone is stored.
@@ -33,19 +33,19 @@ pub extern "C" fn tinladle_pixel(
         (luma.new ∷ cb_part.new ∷ cr_part.new ∷ []) }
 {
     let settings = planes_settings(width, height, chroma_format, luma_depth, chroma_depth);
-    let pixel = pixel_at(settings, y, cb, cr, column, row);
+    let answer = pixel_at(settings, &Planes { y, cb, cr }, column, row);
     *place = 0;
-    match pixel {
-        Pixel::Refused(verdict) => {
-            *place = place_of(verdict);
-            number_of(verdict)
+    match answer {
+        Err(PixelRefusal::Planes(refusal)) => {
+            *place = refusal.place();
+            refusal.number()
         }
-        Pixel::Outside => 14,
-        Pixel::Grey(grey) => {
+        Err(PixelRefusal::Outside) => 14,
+        Ok(Pixel::Grey(grey)) => {
             *luma = grey;
             0
         }
-        Pixel::Colour(parts) => {
+        Ok(Pixel::Colour(parts)) => {
             *luma = parts.luma;
             *cb_part = parts.cb;
             *cr_part = parts.cr;

@@ -1,7 +1,7 @@
 // The sample behind a float that C passes.
 ghost use Rattle.tinladle.specs.Floats.{SampleStored};
 
-use recogniser::{Recovered, sample_of};
+use recogniser::{SampleRefusal, sample_of};
 
 // The number is returned, 0 where a sample gives the float, and the place is always stored; it is always 0.
 #[unsafe(no_mangle)]
@@ -16,11 +16,10 @@ pub extern "C" fn tinladle_sample(
         sample.new }
 {
     *place = 0;
-    let answer = sample_of(depth, chroma, value);
-    match answer {
-        Recovered::Depth => 3,
-        Recovered::NoSample => 15,
-        Recovered::Sample(found) => {
+    match sample_of(depth, chroma, value) {
+        Err(SampleRefusal::Depth) => 3,
+        Err(SampleRefusal::NoSample) => 15,
+        Ok(found) => {
             *sample = found;
             0
         }

@@ -6,7 +6,7 @@ ghost use Rattle.tinladle.specs.Sums.{Summed};
 
 use crate::passed::planes_settings;
 use checksum::{Checksums, picture_checksums};
-use ledger::{number_of, place_of};
+use picture::Planes;
 
 // The number is returned, 0 where the planes are accepted, and the place is always stored. Sums are stored where there
 // are some: of a monochrome picture that of luma alone.
@@ -31,22 +31,24 @@ pub extern "C" fn tinladle_checksum(
         (sum_y.new ∷ sum_cb.new ∷ sum_cr.new ∷ []) }
 {
     let settings = planes_settings(width, height, chroma_format, luma_depth, chroma_depth);
-    let answer = picture_checksums(settings, y, cb, cr);
+    let answer = picture_checksums(settings, &Planes { y, cb, cr });
     *place = 0;
     match answer {
-        Checksums::Refused(verdict) => {
-            *place = place_of(verdict);
-            number_of(verdict)
+        Err(refusal) => {
+            *place = refusal.place();
+            refusal.number()
         }
-        Checksums::One(luma) => {
+        Ok(Checksums::One(luma)) => {
             *sum_y = luma;
             0
         }
-        Checksums::Three {
-            y: luma,
-            cb: blue,
-            cr: red,
-        } => {
+        Ok(
+            Checksums::Three {
+                y: luma,
+                cb: blue,
+                cr: red,
+            },
+        ) => {
             *sum_y = luma;
             *sum_cb = blue;
             *sum_cr = red;
