@@ -9,44 +9,43 @@ ghost use Rattle.tile_parts.specs.Tiles.{OnPicture, tiled, part_at, cut_size};
 use crate::{CutSize, Part, TileAt};
 use picture::{LumaColumn, Settings, cell_bytes, chroma_rows, row_of_cells};
 
-// The first luma column of a column of CTBs, or luma row of a row of CTBs.
-fn first_of_ctb(ctb: u16, log2: u32) -> usize
-    requires { log2 ≤ 6 }
-    ensures { result ≡ ctb * 2 ^ log2 }
-{
-    (ctb as usize) << log2
+// The tiles of one direction: the CTBs at which they start, the CTB size, and the picture's luma columns or rows.
+#[derive(Clone, Copy)]
+struct TileStarts<'a> {
+    ctbs: &'a [u16],
+    log2_ctb: u32,
+    total: usize,
+    ghost ctb_high: { log2_ctb ≤ 6 },
 }
 
-// The first luma column of tile column i, or luma row of tile row i.
-fn tile_first(starts: &[u16], log2: u32, i: usize) -> usize
-    requires { (i < length starts.now) × (log2 ≤ 6) }
-    ensures { result ≡ tile_first starts.now (2 ^ log2) i }
-{
-    first_of_ctb(starts[i], log2)
-}
-
-// The luma column or row that it ends before; `total` is the picture's width or height.
-fn tile_end(starts: &[u16], log2: u32, total: usize, i: usize) -> usize
-    requires { (i < length starts.now) × (log2 ≤ 6) }
-    ensures { result ≡ tile_end starts.now (2 ^ log2) total i }
-{
-    if i + 1 < starts.len() {
-        return tile_first(starts, log2, i + 1);
+impl TileStarts<'_> {
+    // The first luma column of tile column i, or luma row of tile row i.
+    fn first(&self, i: usize) -> usize
+        requires { i < length self.now.ctbs.now }
+        ensures { result ≡ tile_first self.now.ctbs.now (2 ^ self.now.log2_ctb) i }
+    {
+        usize::from(self.ctbs[i]) << self.log2_ctb
     }
-    total
-}
 
-// Its luma columns or rows. Starts that do not rise give none.
-fn tile_span(starts: &[u16], log2: u32, total: usize, i: usize) -> usize
-    requires { (i < length starts.now) × (log2 ≤ 6) }
-    ensures { result ≡ tile_end starts.now (2 ^ log2) total i - tile_first starts.now (2 ^ log2) i }
-{
-    let first = tile_first(starts, log2, i);
-    let end = tile_end(starts, log2, total, i);
-    if end < first {
-        return 0;
+    // The luma column or row that it ends before.
+    fn end(&self, i: usize) -> usize
+        requires { i < length self.now.ctbs.now }
+        ensures { result ≡ tile_end self.now.ctbs.now (2 ^ self.now.log2_ctb) self.now.total i }
+    {
+        if i + 1 < self.ctbs.len() {
+            return self.first(i + 1);
+        }
+        self.total
     }
-    end - first
+
+    // Its luma columns or rows. Starts that do not rise give none.
+    fn span(&self, i: usize) -> usize
+        requires { i < length self.now.ctbs.now }
+        ensures { result ≡ tile_end self.now.ctbs.now (2 ^ self.now.log2_ctb) self.now.total i
+            - tile_first self.now.ctbs.now (2 ^ self.now.log2_ctb) i }
+    {
+        self.end(i).saturating_sub(self.first(i))
+    }
 }
 
 // A tile's part of the luma plane.
@@ -54,12 +53,21 @@ pub fn luma_part(settings: Settings, columns: &[u16], rows: &[u16], at: TileAt) 
     requires { OnPicture (tiled settings columns.now rows.now) at }
     ensures { part_of result ≡ tile_part (tiled settings columns.now rows.now) at.column at.row Y }
 {
-    let log2 = settings.log2_ctb;
+    let across = TileStarts {
+        ctbs: columns,
+        log2_ctb: settings.log2_ctb,
+        total: settings.width as usize,
+    };
+    let down = TileStarts {
+        ctbs: rows,
+        log2_ctb: settings.log2_ctb,
+        total: settings.height as usize,
+    };
     Part {
-        x: tile_first(columns, log2, at.column),
-        y: tile_first(rows, log2, at.row),
-        width: tile_span(columns, log2, settings.width as usize, at.column),
-        height: tile_span(rows, log2, settings.height as usize, at.row),
+        x: across.first(at.column),
+        y: down.first(at.row),
+        width: across.span(at.column),
+        height: down.span(at.row),
     }
 }
 
