@@ -1,4 +1,5 @@
-// The cut: made, filtered as a picture alone, and compared.
+// The cut: made, filtered as a picture alone, and compared. The lists that are written stay parameters: what a struct
+// leaves in a `&mut` field has no name in a clause but its place in nested pairs.
 ghost use Rattle.picture.specs.Given.{planes_of};
 ghost use Rattle.picture.specs.Lent.{planes_lent};
 ghost use Rattle.std.specs.Prelude.{◌≡◌, ◌≤◌};
@@ -16,10 +17,11 @@ pub(crate) fn alone(settings: Settings, luma: Part) -> Settings
     requires { (luma.width ≤ 8192) × (luma.height ≤ 8192) }
     ensures { result ≡ alone settings (part_of luma) }
 {
-    let mut own = settings;
-    own.width = luma.width as u32;
-    own.height = luma.height as u32;
-    own
+    Settings {
+        width: luma.width as u32,
+        height: luma.height as u32,
+        ..settings
+    }
 }
 
 // The stage on the cut, which is one tile: the starts are 0 and 0. Its answer is dropped: the cut of an accepted

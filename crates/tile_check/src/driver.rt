@@ -1,4 +1,5 @@
-// The check of one tile.
+// The check of one tile. The lists that are written stay parameters: what a struct leaves in a `&mut` field has no name
+// in a clause but its place in nested pairs.
 ghost use Rattle.std.specs.Prelude.{◌≡◌, ◌≤◌};
 ghost use Rattle.filter.specs.Finished.{outputs};
 ghost use Rattle.picture.specs.Accepted.{Accepted};
@@ -29,8 +30,7 @@ fn bad_scratch(own: Settings, cut: &Planes<'_>, cells: &[u8], out: &Planes<'_>) 
 }
 
 // The tile of an accepted picture whose outputs are out: it is there, the lists lent for its cut have their lengths,
-// and the count. The lists that are written stay parameters: what a struct leaves in a `&mut` field has no name in a
-// clause but its place in nested pairs.
+// and the count.
 fn compare_tile(
     picture: &Picture<'_>,
     at: TileAt,

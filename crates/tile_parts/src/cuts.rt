@@ -1,4 +1,5 @@
-// A tile's part of all the planes, and of the cell records: copied out, and counted.
+// A tile's part of all the planes, and of the cell records: copied out, and counted. The lists that are written stay
+// parameters: what a struct leaves in a `&mut` field has no name in a clause but its place in nested pairs.
 ghost use Rattle.picture.specs.Given.{planes_of};
 ghost use Rattle.picture.specs.Lent.{planes_lent};
 ghost use Rattle.std.specs.Prelude.{◌≡◌};
