@@ -52,7 +52,8 @@ fn restore_rows(
     }
 }
 
-// The samples of suppressed cells from the original, in place.
+// The samples of suppressed cells from the original, in place. It takes no `PassInput`: the ghost field `ready` asks
+// more of a caller than `Restorable` does.
 pub fn restore(
     plane: &mut [u16],
     original: &[u16],

@@ -32,8 +32,8 @@ fn restore_row(line: &mut [u16], original: &[u16], at: usize, count: usize, supp
 {
     let row = cell_row(original, &line[..], at, count, suppressed);
     if suppressed {
-        // Not `copy_from_slice`: the row may be lent from `line` (document 01 asks for `cell_row`, docs/DECISIONS.md, 12).
-        // Of two samples the last two are the first two once more.
+        // Not `copy_from_slice`, since the row may be lent from `line`: document 01 asks for `cell_row`
+        // (docs/DECISIONS.md, 12). Of two samples the last two are the first two once more.
         let a = row[0];
         let b = row[1];
         let c = row[count - 2];

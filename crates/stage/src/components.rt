@@ -19,7 +19,8 @@ pub(crate) fn biased_offset(offset: i32) -> u8
     (offset + 12) as u8
 }
 
-// Luma has no offset of its own.
+// Luma has no offset of its own. Luma and chroma keep a function each, here and for the frames below: the depth that is
+// read differs, and luma is not scaled, so that one function would ask for the component at every field.
 pub(crate) fn luma_component(settings: Settings) -> Component
     requires { settings.luma_depth ≤ 16 }
     ensures { result ≡ component_for (settings_of settings) 12 Y }

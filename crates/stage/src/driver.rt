@@ -22,32 +22,22 @@ fn deblock(picture: &Picture<'_>, outy: &mut [u16], outcb: &mut [u16], outcr: &m
     requires { Accepted (picture_lent picture.now) (planes_of outy.old outcb.old outcr.old) }
     ensures { planes_of outy.new outcb.new outcr.new ≡ finished (picture_lent picture.now) }
 {
-    let Picture {
-        settings,
-        planes,
-        cells,
-        slices,
-        columns,
-        rows,
-    } = *picture;
+    let settings = picture.settings;
+    let planes = picture.planes;
     // Laid out once, and lent to every look that the luma plane takes.
     let tcs = luma_tc_table();
-    let r = restoration_of(cells, settings.pcm_loop_filter_disabled);
+    let r = restoration_of(picture.cells, settings.pcm_loop_filter_disabled);
     let k = luma_component(settings);
     let f = luma_frame(settings);
-    finish_plane(outy, planes.y, cells, slices, columns, rows, &tcs, k, f, r);
+    finish_plane(outy, planes.y, picture, &tcs, k, f, r);
     if settings.chroma_format == 0 {
         return;
     }
     let kb = chroma_component(settings, biased_offset(settings.cb_qp_offset));
     let kr = chroma_component(settings, biased_offset(settings.cr_qp_offset));
     let fc = chroma_frame(settings);
-    finish_plane(
-        outcb, planes.cb, cells, slices, columns, rows, &tcs, kb, fc, r,
-    );
-    finish_plane(
-        outcr, planes.cr, cells, slices, columns, rows, &tcs, kr, fc, r,
-    );
+    finish_plane(outcb, planes.cb, picture, &tcs, kb, fc, r);
+    finish_plane(outcr, planes.cr, picture, &tcs, kr, fc, r);
 }
 
 // The stage. Any input at all: the answer is the ledger's, and the output planes hold the finished picture, or what

@@ -5,30 +5,38 @@ ghost use Rattle.stage.specs.Plane.{PlaneReady, finished_for};
 
 use filter::Component;
 use horizontal_pass::horizontal_pass;
+use picture::Picture;
 use restore::{Restoration, restore};
-use segments::Frame;
+use segments::{Frame, PassInput};
 use vertical_pass::vertical_pass;
 
 // Output starts as the original; then vertical edges, restoration, horizontal edges on that result, restoration.
 pub(crate) fn finish_plane(
     out: &mut [u16],
     original: &[u16],
-    cells: &[u8],
-    slices: &[u8],
-    columns: &[u16],
-    rows: &[u16],
+    picture: &Picture<'_>,
     tcs: &[u8; 1352],
     k: Component,
     f: Frame,
     r: Restoration,
 )
-    requires { PlaneReady k f r out.old original.now cells.now slices.now tcs.now }
-    ensures { out.new ≡ table f.columns f.rows
-        (finished_for k f r.pcm original.now cells.now slices.now columns.now rows.now) }
+    requires { PlaneReady k f r out.old original.now picture.now.cells.now picture.now.slices.now tcs.now }
+    ensures { out.new ≡ table f.columns f.rows (finished_for k f r.pcm original.now picture.now.cells.now
+        picture.now.slices.now picture.now.columns.now picture.now.rows.now) }
 {
+    let cells = picture.cells;
+    let input = PassInput {
+        cells,
+        slices: picture.slices,
+        columns: picture.columns,
+        rows: picture.rows,
+        tcs,
+        component: k,
+        frame: f,
+    };
     out.copy_from_slice(original);
-    vertical_pass(out, cells, slices, columns, tcs, k, f);
+    vertical_pass(out, &input);
     restore(out, original, cells, r, k, f);
-    horizontal_pass(out, cells, slices, rows, tcs, k, f);
+    horizontal_pass(out, &input);
     restore(out, original, cells, r, k, f);
 }

@@ -17,16 +17,17 @@ restore-requires-2 c =
 pub returns : goal.returns
 returns c =
     let a = c.args in
+    let p = a.picture.now in
     let o = a.original.now in
     let first =
-    stepped a.k a.f _ o a.cells.now a.slices.now vertical a.columns.now c.copy_from_slice.new.self
+    stepped a.k a.f _ o p.cells.now p.slices.now vertical p.columns.now c.copy_from_slice.new.self
     c.vertical_pass.new.s c.restore.new.plane
     c.vertical_pass.ensures c.restore.ensures in
     let second =
-    stepped a.k a.f _ o a.cells.now a.slices.now horizontal a.rows.now c.restore.new.plane
+    stepped a.k a.f _ o p.cells.now p.slices.now horizontal p.rows.now c.restore.new.plane
     c.horizontal_pass.new.s c.restore-2.new.plane
     c.horizontal_pass.ensures c.restore-2.ensures in
-    chain a.k a.f _ o a.cells.now a.slices.now c.requires.ready a.columns.now a.rows.now
+    chain a.k a.f _ o p.cells.now p.slices.now c.requires.ready p.columns.now p.rows.now
     c.copy_from_slice.new.self c.restore.new.plane c.restore-2.new.plane
     c.copy_from_slice.ensures.after first second
     (omega (arith, c.requires.lent.plane_long, mul_comm a.f.rows a.f.columns))
