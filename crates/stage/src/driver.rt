@@ -1,4 +1,5 @@
-// The driver: every check, then each component's plane.
+// The driver: every check, then each component's plane. The output planes stay parameters: what a struct leaves in a
+// `&mut` field has no name in a clause but its place in nested pairs.
 ghost use Rattle.picture.specs.Given.{planes_of};
 ghost use Rattle.std.specs.Prelude.{◌≡◌};
 ghost use Rattle.filter.specs.Finished.{finished, outputs};

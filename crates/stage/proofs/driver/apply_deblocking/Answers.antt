@@ -12,7 +12,7 @@ use Rattle.picture.specs.Picture.{Picture, Planes}
 use Rattle.picture.proofs.Accepted.{accepted_by}
 use Rattle.stage.proofs.Outcome.{left_finished, left_as_it_was}
 use Rattle.stage.proofs.driver.apply_deblocking.Goals as goal
-use Rattle.stage.proofs.driver.apply_deblocking.Goals.{Start, After-check, In_ok-check}
+use Rattle.stage.proofs.driver.apply_deblocking.Goals.{Start, In_ok-check}
 
 -- the picture and the outputs at the call
 abbrev picture : Start → Picture
@@ -21,29 +21,22 @@ picture c = picture_lent c.args.picture.now
 abbrev lent : Start → Planes
 lent c = planes_of c.args.outy.now c.args.outcb.now c.args.outcr.now
 
--- the answer is the ledger's
-answered : (c : After-check) → numbered c.check.result
-    ≡ verdict (picture_lent c.args.picture.now) (planes_of c.args.outy.now c.args.outcb.now c.args.outcr.now)
-unfolding verdict
-answered c = c.check.ensures
-
 accepted : (c : In_ok-check)
     → verdict (picture_lent c.args.picture.now) (planes_of c.args.outy.now c.args.outcb.now c.args.outcr.now) ≡ acceptance
 unfolding verdict
-accepted c = sym c.check.ensures ∙ ap numbered c.in_ok-check.was
+accepted c = sym c.in_ok-check.ensures
 
 pub returns-in_err-check-clause-verdict : goal.returns-in_err-check-clause-verdict
+unfolding verdict
 returns-in_err-check-clause-verdict c =
     let given = err_from_is_err_and c.from_residual.result c.from_residual.ensures.1 in
-    ap numbered given.1
-    ∙ ap refused given.2
-    ∙ sym (ap numbered c.in_err-check.was)
-    ∙ answered (goal.at.returns-in_err-check-clause-verdict c).After-check
+    ap numbered given.1 ∙ ap refused given.2 ∙ c.in_err-check.ensures
 
 pub returns-in_err-check-clause-planes : goal.returns-in_err-check-clause-planes
+unfolding verdict
 returns-in_err-check-clause-planes c =
     let at = goal.at.returns-in_err-check-clause-planes c in
-    left_as_it_was (picture at.Start) (lent at.Start) _ (sym (ap numbered c.in_err-check.was) ∙ answered at.After-check)
+    left_as_it_was (picture at.Start) (lent at.Start) _ c.in_err-check.ensures
 
 pub deblock-requires : goal.deblock-requires
 deblock-requires c =
