@@ -15,7 +15,7 @@ use Rattle.ints.specs.Sum.{sum}
 use Rattle.filter.specs.Count.{differ, differing}
 use Rattle.picture.specs.Plane.{Part, at}
 use Rattle.tiles_apart.proofs.Parts.{index}
-use Rattle.tile_parts.specs.Parts.{Room, differing_row}
+use Rattle.tile_parts.specs.Parts.{Room, row_differences}
 
 differ_most : (m n : ℕ) → differ m n ≤ 1
 differ_most m n = go (eqb m n)
@@ -33,8 +33,8 @@ sum_first (suc n) f = omega (arith, sum_first n f)
 
 -- the pairs that differ, counted
 pub pairs_counted : (own out : List ℕ) → length out ≡ length own
-    → length (filter (λ p. not (eqb p.0 p.1)) (zip own out)) ≡ differing_row own out
-unfolding differing_row
+    → length (filter (λ p. not (eqb p.0 p.1)) (zip own out)) ≡ row_differences own out
+unfolding row_differences
 pairs_counted [] out long = refl
 pairs_counted (m ∷ own) [] long = absurd (omega arith)
 pairs_counted (m ∷ own) (n ∷ out) long =
@@ -47,8 +47,8 @@ pairs_counted (m ∷ own) (n ∷ out) long =
     one false l = omega arith
 
 -- a row has no more than its samples
-row_few : (own out : List ℕ) {r : ℕ} → r ≡ differing_row own out → r ≤ length own
-unfolding differing_row
+row_few : (own out : List ℕ) {r : ℕ} → r ≡ row_differences own out → r ≤ length own
+unfolding row_differences
 row_few own out e = omega (arith, most (length own))
   where
     most : (n : ℕ) → sum n (λ x. differ (get_or own x 0) (get_or out x 0)) ≤ n
@@ -73,19 +73,19 @@ module _ (cut out : List ℕ) (stride : ℕ) (part : Part) where
 
   -- the rows as the code reads them, i samples and j
   pub rows_read : (y : ℕ) {r i j : ℕ} → i ≡ part.width → j ≡ part.width
-      → r ≡ differing_row (take i (drop (y * part.width) cut)) (take j (drop ((part.y + y) * stride + part.x) out))
-      → r ≡ differing_row (cut_row y) (out_row_at y)
+      → r ≡ row_differences (take i (drop (y * part.width) cut)) (take j (drop ((part.y + y) * stride + part.x) out))
+      → r ≡ row_differences (cut_row y) (out_row_at y)
   rows_read y ei ej e =
       e
-      ∙ (λ k. differing_row (take (ei k) (drop (y * part.width) cut))
+      ∙ (λ k. row_differences (take (ei k) (drop (y * part.width) cut))
       (take (ej k) (drop ((part.y + y) * stride + part.x) out)))
 
-  pub rows_few : (y : ℕ) {r : ℕ} → r ≡ differing_row (cut_row y) (out_row_at y) → r ≤ part.width
+  pub rows_few : (y : ℕ) {r : ℕ} → r ≡ row_differences (cut_row y) (out_row_at y) → r ≤ part.width
   rows_few y e = omega (arith, row_few (cut_row y) (out_row_at y) e, length-take part.width (drop (y * part.width) cut))
 
   pub rows_more : {n r : ℕ} (y : ℕ) → y * part.width + part.width ≤ length cut → n ≡ rows_to y
-      → r ≡ differing_row (cut_row y) (out_row_at y) → n + r ≡ rows_to (y + 1)
-  unfolding differing_row at
+      → r ≡ row_differences (cut_row y) (out_row_at y) → n + r ≡ rows_to (y + 1)
+  unfolding row_differences at
   rows_more y inside e h =
       let same : (part.y + y) * stride ≡ (y + part.y) * stride =
       ap (λ (k : ℕ). k * stride) (add_comm part.y y) in

@@ -42,5 +42,5 @@ first_rows list stride part (suc n) =
     first_rows list stride part n ++ take part.width (drop ((part.y + n) * stride + part.x) list)
 
 -- the samples in which two rows differ
-unfoldable pub differing_row : List ℕ → List ℕ → ℕ
-differing_row own out = sum (length own) (λ x. differ (get_or own x 0) (get_or out x 0))
+unfoldable pub row_differences : List ℕ → List ℕ → ℕ
+row_differences own out = sum (length own) (λ x. differ (get_or own x 0) (get_or out x 0))

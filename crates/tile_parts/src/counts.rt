@@ -2,14 +2,14 @@
 ghost use Rattle.std.specs.Prelude.{◌≡◌, ◌*◌, ◌^◌, ◌≤◌, length};
 ghost use Rattle.filter.specs.Count.{differing};
 ghost use Rattle.picture.specs.Plane.{at};
-ghost use Rattle.tile_parts.specs.Parts.{part_of, Room, differing_row};
+ghost use Rattle.tile_parts.specs.Parts.{part_of, Room, row_differences};
 
 use crate::Part;
 
 // Of two rows of one length.
 fn differing_row(cut: &[u16], out: &[u16]) -> usize
     requires { length out.now ≡ length cut.now }
-    ensures { result ≡ differing_row cut.now out.now }
+    ensures { result ≡ row_differences cut.now out.now }
 {
     cut.iter()
         .zip(out)

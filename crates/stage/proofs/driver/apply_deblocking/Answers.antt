@@ -21,6 +21,7 @@ picture c = picture_lent c.args.picture.now
 abbrev lent : Start → Planes
 lent c = planes_of c.args.outy.now c.args.outcb.now c.args.outcr.now
 
+-- the picture was not refused
 accepted : (c : In_ok-check)
     → verdict (picture_lent c.args.picture.now) (planes_of c.args.outy.now c.args.outcb.now c.args.outcr.now) ≡ acceptance
 unfolding verdict

@@ -6,7 +6,7 @@ use native.Mathlib.Nat.{add-mul}
 use native.Mathlib.Omega.{arith}
 use borrow.Author.Rules.{rules}
 use Rattle.picture.proofs.Index.{row_le}
-use Rattle.tile_parts.specs.Parts.{part_of, differing_row}
+use Rattle.tile_parts.specs.Parts.{part_of, row_differences}
 use Rattle.tile_parts.proofs.Cropped.{own_row, out_row}
 use Rattle.tile_parts.proofs.Counted.{cut_row, out_row_at, rows_read, rows_few, rows_more, rows_all, cut_small}
 use Rattle.tile_parts.proofs.counts.differing_plane.Goals as goal
@@ -15,7 +15,7 @@ use Rattle.tile_parts.proofs.counts.differing_plane.Goals.{After-differing_row-n
 -- what was counted
 counted : (c : After-differing_row-n) → let a = c.args in
     c.differing_row-n.result
-    ≡ differing_row (cut_row a.cut.now a.out.now a.stride (part_of a.part) c.loop-y.y)
+    ≡ row_differences (cut_row a.cut.now a.out.now a.stride (part_of a.part) c.loop-y.y)
     (out_row_at a.cut.now a.out.now a.stride (part_of a.part) c.loop-y.y)
 counted c =
     let a = c.args in
