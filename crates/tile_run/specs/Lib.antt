@@ -1,2 +1,3 @@
 pub mod CutLists
+pub mod Lines
 pub mod Trials

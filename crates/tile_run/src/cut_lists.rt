@@ -8,33 +8,11 @@ use picture::{CellColumn, LumaColumn, cell_bytes, chroma_rows, row_of_cells};
 use picture_record::{CELL_BYTES, SAMPLES};
 use tile_parts::CutSize;
 
-// The product, and never more than `most`.
-fn area(width: usize, height: usize, most: usize) -> usize
-    ensures { result ≡ min (width * height) most }
-{
-    if width == 0 {
-        return 0;
-    }
-    if most / width < height {
-        return most;
-    }
-    width * height
-}
-
-fn at_most(n: usize, most: usize) -> usize
-    ensures { result ≡ min n most }
-{
-    if most < n {
-        return most;
-    }
-    n
-}
-
 // The samples of a plane of this size.
 fn plane_samples(size: CutSize) -> usize
     ensures { result ≡ plane_samples size }
 {
-    area(size.width, size.height, SAMPLES)
+    size.width.saturating_mul(size.height).min(SAMPLES)
 }
 
 // The bytes of its cells.
@@ -43,8 +21,8 @@ fn cut_cell_bytes(size: CutSize) -> usize
 {
     let columns = LumaColumn(size.width).cell();
     let rows = row_of_cells(size.height);
-    let cells = area(columns.0, rows, CELL_BYTES);
-    at_most(cell_bytes(CellColumn(cells), 1), CELL_BYTES)
+    let cells = columns.0.saturating_mul(rows).min(CELL_BYTES);
+    cell_bytes(CellColumn(cells), 1).min(CELL_BYTES)
 }
 
 // The size in a chroma plane.
@@ -61,10 +39,10 @@ pub(crate) fn chroma_size(format: u32, size: CutSize) -> CutSize
 fn one_off(exact: usize) -> usize
     ensures { result ≡ one_off exact }
 {
-    if exact == 0 {
-        return 1;
+    match exact {
+        0 => 1,
+        n => n - 1,
     }
-    exact - 1
 }
 
 // The length of a list of 1 to 7, which is the exact one, but for the list `wrong`: one too short at its own number,
@@ -77,7 +55,7 @@ fn length_of(list: usize, exact: usize, wrong: usize, most: usize) -> usize
         return one_off(exact);
     }
     if wrong == list + 7 {
-        return at_most(exact + 1, most);
+        return (exact + 1).min(most);
     }
     exact
 }

@@ -1,13 +1,19 @@
 // The line of a tile: the picture's number, the tile's column and row, the list that is one off its length or 0, and
 // the answer in words.
+ghost use Rattle.std.specs.Prelude.{◌≡◌, OnOk, Some};
+ghost use Rattle.std.specs.Io.KnownBytes.{Appends};
+ghost use Rattle.picture.specs.Lent.{planes_lent};
+ghost use Rattle.tile_run.specs.Lines.{trial_text, differing_line, tile_line, cut_fingerprints};
+
 use fingerprint::plane_fingerprint;
-use ledger::{Verdict, number_of, place_of};
-use picture_text::{Fingerprints, put_fingerprints, put_number};
+use ledger::{number_of, place_of};
+use picture::Planes;
+use picture_text::Fingerprints;
+use std::fmt;
+use std::io;
+use std::io::Write;
 use tile_check::TileAnswer;
 use tile_parts::{CutSize, TileAt};
-
-// Standard output.
-const STDOUT: i32 = 1;
 
 // What is tried: a tile of a picture, with the list `wrong` of its cut one off its length, or none (0).
 #[derive(Clone, Copy)]
@@ -17,63 +23,62 @@ pub(crate) struct Trial {
     pub wrong: usize,
 }
 
-pub(crate) fn put_place(trial: Trial) -> bool {
-    if !put_number(trial.number) {
-        return false;
+impl fmt::Display for Trial {
+    ghost output = { λ trial. Some (trial_text trial) };
+
+    #[tactic(auto, unfolding(crate::specs::Lines::trial_text))]
+    fn fmt<W: fmt::Write>(&self, f: &mut fmt::Formatter<W>) -> fmt::Result {
+        let Trial { number, at, wrong } = *self;
+        write!(f, "{number} {} {} {wrong}", at.column, at.row)
     }
-    if !put_number(trial.at.column as u64) {
-        return false;
-    }
-    if !put_number(trial.at.row as u64) {
-        return false;
-    }
-    put_number(trial.wrong as u64)
 }
 
-fn put_refused(verdict: Verdict) -> bool {
-    if !io::write_all(STDOUT, b"refused ") {
-        return false;
+// The fingerprints of a cut's planes, whose sizes are `luma` and `chroma`.
+#[tactic(auto, unfolding(crate::specs::Lines::cut_fingerprints))]
+fn cut_fingerprints(luma: CutSize, chroma: CutSize, cut: &Planes<'_>) -> Fingerprints
+    ensures { result ≡ cut_fingerprints luma chroma (planes_lent cut.now) }
+{
+    Fingerprints {
+        y: plane_fingerprint(cut.y, luma.width, luma.height),
+        cb: plane_fingerprint(cut.cb, chroma.width, chroma.height),
+        cr: plane_fingerprint(cut.cr, chroma.width, chroma.height),
     }
-    if !put_number(number_of(verdict) as u64) {
-        return false;
-    }
-    if !io::print_decimal(STDOUT, place_of(verdict)) {
-        return false;
-    }
-    io::write_all(STDOUT, b"\n")
 }
 
-fn put_differing(count: usize, planes: Fingerprints) -> bool {
-    if !io::write_all(STDOUT, b"differing ") {
-        return false;
-    }
-    if !put_number(count as u64) {
-        return false;
-    }
-    put_fingerprints(planes)
+#[tactic(auto, unfolding(crate::specs::Lines::differing_line))]
+fn put_differing<W: Write>(
+    output: &mut W,
+    trial: Trial,
+    count: usize,
+    prints: Fingerprints,
+) -> io::Result<()>
+    ensures { OnOk result (Appends (W.contents output.old) (W.contents output.new)
+        (differing_line trial count prints)) }
+{
+    writeln!(output, "{trial} differing {count} {prints}")
 }
 
 // The answer for a tile; where its cut was filtered, with the fingerprints of what that left. `luma` and `chroma` are
 // the sizes of the cut's planes.
-pub(crate) fn put_tile(
+pub(crate) fn put_tile<W: Write>(
+    output: &mut W,
+    trial: Trial,
     answer: TileAnswer,
     luma: CutSize,
     chroma: CutSize,
-    owny: &[u16],
-    owncb: &[u16],
-    owncr: &[u16],
-) -> bool {
+    own: &Planes<'_>,
+) -> io::Result<()>
+    ensures { OnOk result (Appends (W.contents output.old) (W.contents output.new)
+        (tile_line trial answer (cut_fingerprints luma chroma (planes_lent own.now)))) }
+{
     match answer {
-        TileAnswer::Refused(verdict) => put_refused(verdict),
-        TileAnswer::NoTile => io::write_all(STDOUT, b"no tile\n"),
-        TileAnswer::Lengths => io::write_all(STDOUT, b"lengths\n"),
-        TileAnswer::Differing(count) => put_differing(
-            count,
-            Fingerprints {
-                y: plane_fingerprint(owny, luma.width, luma.height),
-                cb: plane_fingerprint(owncb, chroma.width, chroma.height),
-                cr: plane_fingerprint(owncr, chroma.width, chroma.height),
-            },
-        ),
+        TileAnswer::Refused(verdict) => {
+            writeln!(output, "{trial} refused {} {}", number_of(verdict), place_of(verdict))
+        }
+        TileAnswer::NoTile => writeln!(output, "{trial} no tile"),
+        TileAnswer::Lengths => writeln!(output, "{trial} lengths"),
+        TileAnswer::Differing(count) => {
+            put_differing(output, trial, count, cut_fingerprints(luma, chroma, own))
+        }
     }
 }

@@ -6,7 +6,9 @@ ghost use Rattle.tile_run.specs.Trials.{trial, next_trial};
 use crate::LentSamples;
 use crate::line::Trial;
 use crate::one_tile::one_tile;
-use picture::Settings;
+use picture::Picture;
+use std::io;
+use std::io::Write;
 use tile_parts::TileAt;
 
 fn trial(number: u64, column: usize, row: usize, wrong: usize) -> Trial
@@ -37,27 +39,18 @@ fn next_trial(columns: usize, rows: usize, now: Trial) -> Trial
     trial(now.number, 0, at.row + 1, 0)
 }
 
-// Answers whether all was written.
-pub fn tile_lines(
+// A line for each trial. `next_trial` states their order (specs/Trials), which loops over tile rows and columns would
+// leave unsaid.
+pub fn tile_lines<W: Write>(
+    output: &mut W,
     number: u64,
-    settings: Settings,
     outputs: LentSamples,
-    y: &[u16],
-    cb: &[u16],
-    cr: &[u16],
-    cells: &[u8],
-    slices: &[u8],
-    columns: &[u16],
-    rows: &[u16],
-) -> bool {
+    picture: &Picture<'_>,
+) -> io::Result<()> {
     let mut now = trial(number, 0, 0, 0);
     while now.wrong < 15 {
-        if !one_tile(
-            now, settings, outputs, y, cb, cr, cells, slices, columns, rows,
-        ) {
-            return false;
-        }
-        now = next_trial(columns.len(), rows.len(), now);
+        one_tile(output, now, outputs, picture)?;
+        now = next_trial(picture.columns.len(), picture.rows.len(), now);
     }
-    true
+    Ok(())
 }

@@ -13,7 +13,7 @@ returns-then-wrong-list c =
 pub returns-then-wrong-list-2 : goal.returns-then-wrong-list-2
 unfolding length_of
 returns-then-wrong-list-2 c =
-    rw (ne_eqb _ _ c.if-wrong-list.false, eq-eqb _ _ c.if-wrong-list-2.true, c.at_most.ensures) refl
+    rw (ne_eqb _ _ c.if-wrong-list.false, eq-eqb _ _ c.if-wrong-list-2.true, c.min.ensures) refl
 
 pub returns : goal.returns
 unfolding length_of

@@ -4,5 +4,5 @@ use Rattle.tile_run.proofs.Trials.{fewer}
 use Rattle.tile_run.proofs.tiles.tile_lines.Goals as goal
 
 pub loop-now-smaller : goal.loop-now-smaller
-loop-now-smaller c =
+loop-now-smaller g c =
     rw c.next_trial-now.ensures (fewer _ _ _ c.loop-now-test.true)

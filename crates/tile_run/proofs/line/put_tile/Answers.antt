@@ -1,0 +1,7 @@
+-- `put_tile` meets its contract: the fingerprints of a cut that was filtered are its planes'.
+-- Assumes nothing.
+use Rattle.tile_run.proofs.line.put_tile.Goals as goal
+
+pub returns-in-Differing : goal.returns-in-Differing
+returns-in-Differing g c =
+    rw c.in-Differing.is (rw c.cut_fingerprints.ensures at c.put_differing.ensures)
