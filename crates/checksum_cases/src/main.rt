@@ -1,6 +1,6 @@
 // The picture checksums of stored planes (document 02, C-11).
 #![tactic(auto)]
 
-fn main() {
-    picture_run::run_checksums();
+fn main(rt: HostRuntime) {
+    picture_run::run_checksums(&mut rt.stdin(), &mut rt.stdout());
 }

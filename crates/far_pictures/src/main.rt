@@ -2,6 +2,6 @@
 // luma and 48 in chroma, times 2^(depth - 8).
 #![tactic(auto)]
 
-fn main() {
-    picture_run::run_moves();
+fn main(rt: HostRuntime) {
+    picture_run::run_moves(&mut rt.stdin(), &mut rt.stdout());
 }

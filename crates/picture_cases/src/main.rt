@@ -1,6 +1,6 @@
 // The stage on stored pictures: each refusal of the ledger, each format and depth, tiles, slices and suppressed cells.
 #![tactic(auto)]
 
-fn main() {
-    picture_run::run_stage();
+fn main(rt: HostRuntime) {
+    picture_run::run_stage(&mut rt.stdin(), &mut rt.stdout());
 }

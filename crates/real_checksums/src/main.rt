@@ -2,6 +2,6 @@
 // (document 02, C-11).
 #![tactic(auto)]
 
-fn main() {
-    picture_run::run_finished_checksums();
+fn main(rt: HostRuntime) {
+    picture_run::run_finished_checksums(&mut rt.stdin(), &mut rt.stdout());
 }

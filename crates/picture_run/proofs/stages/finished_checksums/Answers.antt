@@ -7,16 +7,16 @@ use Rattle.ledger.proofs.Refusals.{refuses}
 use Rattle.ledger.specs.Numbered.{numbered}
 use Rattle.ledger.specs.declared.Verdict.{Verdict}
 use Rattle.picture.specs.Given.{of_planes}
-use Rattle.picture.specs.Given.{planes_of}
+use Rattle.picture.specs.Lent.{planes_lent}
 use Rattle.picture.specs.Picture.{Picture}
 use Rattle.picture_run.specs.Sums.{finished_answer}
-use Rattle.picture_run.proofs.pictures.finished_checksums.Goals as goal
-use Rattle.picture_run.proofs.pictures.finished_checksums.Goals.{Start}
+use Rattle.picture_run.proofs.stages.finished_checksums.Goals as goal
+use Rattle.picture_run.proofs.stages.finished_checksums.Goals.{Start}
 
 -- the picture that the planes make
 abbrev picture : Start → Picture
 picture c =
-    of_planes c.args.settings (planes_of c.args.outy.now c.args.outcb.now c.args.outcr.now)
+    of_planes c.args.settings (planes_lent c.args.out.now)
 
 pub returns-in_default : goal.returns-in_default
 returns-in_default c =

@@ -1,6 +1,6 @@
 -- `lent_outputs` meets its contract: each plane is what its length ensures.
 -- Assumes nothing.
-use Rattle.picture_run.proofs.pictures.lent_outputs.Goals as goal
+use Rattle.picture_run.proofs.records.lent_outputs.Goals as goal
 
 pub returns : goal.returns
 returns c =
