@@ -5,7 +5,8 @@ ghost use Rattle.std.specs.Io.KnownBytes.{Appends};
 ghost use Rattle.picture.specs.Lent.{planes_lent};
 ghost use Rattle.picture_text.specs.Lines.{MovesOf, moves_text, moves_line};
 
-use ledger::{Verdict, number_of, place_of};
+use crate::words::put_refused;
+use ledger::Verdict;
 use moves::{Move, farthest_move};
 use picture::Planes;
 use std::fmt;
@@ -53,8 +54,8 @@ pub fn put_moves<W: Write>(
 ) -> io::Result<()>
     ensures { OnOk result (Appends (W.contents output.old) (W.contents output.new) (moves_line number verdict far)) }
 {
-    let Verdict::Accepted = verdict else {
-        return writeln!(output, "{number} {} {}", number_of(verdict), place_of(verdict));
-    };
-    writeln!(output, "{number} {} {} {far}", number_of(verdict), place_of(verdict))
+    match verdict {
+        Ok(()) => writeln!(output, "{number} 0 0 {far}"),
+        Err(refusal) => put_refused(output, number, refusal),
+    }
 }

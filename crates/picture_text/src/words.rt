@@ -1,11 +1,15 @@
 // The words of a line.
-ghost use Rattle.std.specs.Prelude.{◌≡◌, Some};
+ghost use Rattle.std.specs.Prelude.{◌≡◌, OnOk, Some};
+ghost use Rattle.std.specs.Io.KnownBytes.{Appends};
 ghost use Rattle.picture.specs.Lent.{planes_lent};
-ghost use Rattle.picture_text.specs.Lines.{hex, fingerprints_of, fingerprints_text};
+ghost use Rattle.picture_text.specs.Lines.{hex, fingerprints_of, fingerprints_text, refused_line};
 
 use fingerprint::fingerprint;
+use ledger::Refusal;
 use picture::Planes;
 use std::fmt;
+use std::io;
+use std::io::Write;
 
 // A number in N hexadecimal digits.
 #[derive(Clone, Copy)]
@@ -58,4 +62,11 @@ impl fmt::Display for Fingerprints {
         let cr = Hex::<16>(self.cr);
         write!(f, "{y} {cb} {cr}")
     }
+}
+
+// The line of what is refused: its number, and the refusal's number and place.
+pub(crate) fn put_refused<W: Write>(output: &mut W, number: u64, refusal: Refusal) -> io::Result<()>
+    ensures { OnOk result (Appends (W.contents output.old) (W.contents output.new) (refused_line number refusal)) }
+{
+    writeln!(output, "{number} {} {}", refusal.number(), refusal.place())
 }
