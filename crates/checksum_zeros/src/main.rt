@@ -3,7 +3,7 @@
 #![tactic(auto)]
 
 use checksum::{Checksums, picture_checksums};
-use picture::Settings;
+use picture::{Planes, Settings};
 use picture_text::put_sum;
 use std::io;
 use std::io::Write;
@@ -23,7 +23,12 @@ fn put_sums<W: Write>(output: &mut W) -> io::Result<()> {
     };
     let luma = [0u16; 64];
     let chroma = [0u16; 16];
-    if let Checksums::Three { y, cb, cr } = picture_checksums(settings, &luma, &chroma, &chroma) {
+    let planes = Planes {
+        y: &luma,
+        cb: &chroma,
+        cr: &chroma,
+    };
+    if let Ok(Checksums::Three { y, cb, cr }) = picture_checksums(settings, &planes) {
         put_sum(output, y)?;
         put_sum(output, cb)?;
         put_sum(output, cr)?;

@@ -41,7 +41,7 @@ where
 }
 
 // Reads and answers one record after another, each with its number from 1 on, until the first stop. A record that is
-// at fault is told in a line.
+// at fault is told in a line. No `ensures`: what becomes of the streams is what each call of `answer` makes of them.
 pub fn each_record<R, W, F>(input: &mut R, output: &mut W, answer: F)
 where
     R: Read,

@@ -39,8 +39,7 @@ pub fn run_tiles<R: Read, W: Write>(input: &mut R, output: &mut W) {
 // A line for each picture: the checksums of its planes as they are given.
 pub fn run_checksums<R: Read, W: Write>(input: &mut R, output: &mut W) {
     each_picture(input, output, |_, output, record| {
-        let planes = record.picture.planes;
-        let sums = picture_checksums(record.picture.settings, planes.y, planes.cb, planes.cr);
+        let sums = picture_checksums(record.picture.settings, &record.picture.planes);
         put_checksums(output, record.number, sums)?;
         Ok(())
     });
@@ -63,15 +62,8 @@ pub fn run_pixels<R: Read, W: Write>(input: &mut R, output: &mut W) {
     each_picture(input, output, |input, output, record| {
         let mut at = [0u8; 8];
         read_bytes(input, &mut at)?;
-        let planes = record.picture.planes;
-        let pixel = pixel_at(
-            record.picture.settings,
-            planes.y,
-            planes.cb,
-            planes.cr,
-            word(&at, 0),
-            word(&at, 1),
-        );
+        let picture = &record.picture;
+        let pixel = pixel_at(picture.settings, &picture.planes, word(&at, 0), word(&at, 1));
         put_pixel(output, record.number, pixel)?;
         Ok(())
     });

@@ -8,7 +8,7 @@ ghost use Rattle.picture_run.specs.Sums.{finished_answer};
 
 use crate::records::Record;
 use checksum::{Checksums, picture_checksums};
-use ledger::Verdict;
+use ledger::{Refusal, Verdict};
 use picture::{Planes, Settings};
 use picture_record::{SAMPLES, front};
 use stage::apply_deblocking;
@@ -20,13 +20,11 @@ pub(crate) fn finished_checksums(
     settings: Settings,
     verdict: Verdict,
     out: &Planes<'_>,
-) -> Checksums
+) -> Result<Checksums, Refusal>
     ensures { answer_of result ≡ finished_answer (numbered verdict) (of_planes settings (planes_lent out.now)) }
 {
-    let Verdict::Accepted = verdict else {
-        return Checksums::Refused(verdict);
-    };
-    picture_checksums(settings, out.y, out.cb, out.cr)
+    verdict?;
+    picture_checksums(settings, out)
 }
 
 // Runs the stage on outputs that hold junk, and shows its answer and what it left.
@@ -41,19 +39,6 @@ where
     let y = front(&mut y, record.lent.y);
     let cb = front(&mut cb, record.lent.cb);
     let cr = front(&mut cr, record.lent.cr);
-    let picture = &record.picture;
-    let verdict = apply_deblocking(
-        picture.settings,
-        picture.planes.y,
-        picture.planes.cb,
-        picture.planes.cr,
-        picture.cells,
-        picture.slices,
-        picture.columns,
-        picture.rows,
-        &mut y[..],
-        &mut cb[..],
-        &mut cr[..],
-    );
+    let verdict = apply_deblocking(&record.picture, &mut y[..], &mut cb[..], &mut cr[..]);
     show(verdict, &Planes { y, cb, cr })
 }

@@ -13,7 +13,7 @@ use std::fmt;
 use std::io;
 use std::io::Write;
 
-// The farthest moves of the three planes.
+// The farthest moves of the three planes. No one type with `Fingerprints`, which prints in another form.
 #[derive(Clone, Copy)]
 pub struct Moves {
     pub y: Move,

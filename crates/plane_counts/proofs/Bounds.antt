@@ -23,14 +23,6 @@ both false b e = absurd (let z : ◌≡◌ {A = ℕ} 0 1 = cc in omega arith)
 at_most : (a b : ℕ) (rest : Bool) → leb a b && rest ≡ true → (a ≤ b) × (rest ≡ true)
 at_most a b rest e = let two = both (leb a b) rest e in (leb-true a b two.0, two.1)
 
--- so many after the first are among all, asked without a sum
-pub among : (first count all : ℕ) → first ≤ all → leb count (all - first) ≡ leb (count + first) all
-among first count all h = go (either (all - first) count)
-  where
-    go : (all - first < count) ⊎ (count ≤ all - first) → leb count (all - first) ≡ leb (count + first) all
-    go (inl past) = lt-leb count (all - first) past ∙ sym (lt-leb (count + first) all (omega arith))
-    go (inr fits) = le-leb count (all - first) fits ∙ sym (le-leb (count + first) all (omega arith))
-
 pub fitting : (pair : Pair) → small pair ≡ true → inside pair ≡ true → Fitting pair
 unfolding small inside
 fitting pair s i =
@@ -50,14 +42,3 @@ fitting pair s i =
       columns = columns;
       down = down;
     }
-
-pub room : {pair : Pair} → Fitting pair → (list : List ℕ) → length list ≡ pair.stride * pair.rows
-    → Room (part_of pair.part) pair.stride list
-room {pair} h list long = record {
-  rows = pair.rows;
-  long = long;
-  columns = h.columns;
-  down = h.down;
-  wide = omega arith;
-  high = omega arith;
-}

@@ -10,7 +10,7 @@ use fingerprint::{BASIS, with_word};
 use float_samples::part;
 use ints::largest_at;
 use picture_text::bits_of;
-use recogniser::{Recovered, sample_of};
+use recogniser::sample_of;
 use std::io;
 use std::io::Write;
 
@@ -27,7 +27,7 @@ fn comes_back(depth: u32, chroma: bool, sample: u16, float: f32) -> u32
     ensures { result ≡ 1 }
 {
     match sample_of(depth, chroma, float) {
-        Recovered::Sample(back) if back == sample => 1,
+        Ok(back) if back == sample => 1,
         _ => 0,
     }
 }

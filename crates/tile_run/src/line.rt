@@ -6,16 +6,16 @@ ghost use Rattle.picture.specs.Lent.{planes_lent};
 ghost use Rattle.tile_run.specs.Lines.{trial_text, differing_line, tile_line, cut_fingerprints};
 
 use fingerprint::plane_fingerprint;
-use ledger::{number_of, place_of};
 use picture::Planes;
 use picture_text::Fingerprints;
 use std::fmt;
 use std::io;
 use std::io::Write;
-use tile_check::TileAnswer;
+use tile_check::TileRefusal;
 use tile_parts::{CutSize, TileAt};
 
-// What is tried: a tile of a picture, with the list `wrong` of its cut one off its length, or none (0).
+// What is tried: a tile of a picture, with the list `wrong` of its cut one off its length, or none (0). It stays a
+// number: the line shows it, and `next_trial` and `length_of` of specs/ count by it.
 #[derive(Clone, Copy)]
 pub(crate) struct Trial {
     pub number: u64,
@@ -63,7 +63,7 @@ fn put_differing<W: Write>(
 pub(crate) fn put_tile<W: Write>(
     output: &mut W,
     trial: Trial,
-    answer: TileAnswer,
+    answer: Result<usize, TileRefusal>,
     luma: CutSize,
     chroma: CutSize,
     own: &Planes<'_>,
@@ -72,13 +72,11 @@ pub(crate) fn put_tile<W: Write>(
         (tile_line trial answer (cut_fingerprints luma chroma (planes_lent own.now)))) }
 {
     match answer {
-        TileAnswer::Refused(verdict) => {
-            writeln!(output, "{trial} refused {} {}", number_of(verdict), place_of(verdict))
+        Ok(count) => put_differing(output, trial, count, cut_fingerprints(luma, chroma, own)),
+        Err(TileRefusal::Picture(refusal)) => {
+            writeln!(output, "{trial} refused {} {}", refusal.number(), refusal.place())
         }
-        TileAnswer::NoTile => writeln!(output, "{trial} no tile"),
-        TileAnswer::Lengths => writeln!(output, "{trial} lengths"),
-        TileAnswer::Differing(count) => {
-            put_differing(output, trial, count, cut_fingerprints(luma, chroma, own))
-        }
+        Err(TileRefusal::NoTile) => writeln!(output, "{trial} no tile"),
+        Err(TileRefusal::Lengths) => writeln!(output, "{trial} lengths"),
     }
 }

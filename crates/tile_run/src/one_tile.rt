@@ -31,14 +31,7 @@ fn tile_line<W: Write>(
     let mut cutcr = [JUNK; SAMPLES];
     let mut cutcells = [0u8; CELL_BYTES];
     let answer = check_tile(
-        settings,
-        picture.planes.y,
-        picture.planes.cb,
-        picture.planes.cr,
-        picture.cells,
-        picture.slices,
-        picture.columns,
-        picture.rows,
+        picture,
         trial.at,
         outy,
         outcb,

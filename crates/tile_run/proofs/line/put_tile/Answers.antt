@@ -2,6 +2,6 @@
 -- Assumes nothing.
 use Rattle.tile_run.proofs.line.put_tile.Goals as goal
 
-pub returns-in-Differing : goal.returns-in-Differing
-returns-in-Differing g c =
-    rw c.in-Differing.is (rw c.cut_fingerprints.ensures at c.put_differing.ensures)
+pub returns-in-Ok : goal.returns-in-Ok
+returns-in-Ok g c =
+    rw c.in-Ok.is (rw c.cut_fingerprints.ensures at c.put_differing.ensures)
