@@ -5,7 +5,7 @@ use mathlib.Core.Path.{◌≡◌, ap, ◌∙◌}
 use mathlib.Core.List.{List, [], ◌∷◌}
 use mathlib.Core.Logic.{⊎_elim}
 use native.Mathlib.Omega.{arith}
-use lib.ListN.{length, get_or, set}
+use lib.ListN.{get_or}
 use Rattle.ints.proofs.Laws.{either}
 use Rattle.filter.specs.declared.ChromaFilter.{ChromaFilter}
 use Rattle.filter.specs.Answer.{chroma_of}
@@ -15,16 +15,8 @@ use Rattle.lines.specs.Chroma.{chroma_line}
 use Rattle.picture.specs.Plane.{Plane}
 use Rattle.picture.proofs.Index.{cases8}
 use Rattle.planes.specs.Window.{spot, window_at, Strides, Filtered, Put}
-use Rattle.planes.proofs.Windows.{put_none, put_more, filtered_line, line_left}
+use Rattle.planes.proofs.Windows.{filtered_line, line_left}
 use Rattle.chroma_windows.specs.Line.{chroma_line_at}
-
-pub put_two : (at p q : ℕ) (xs : List ℕ) → at + 1 < length xs
-    → Put 2 at 1 (p ∷ q ∷ []) xs (set (set xs at p) (at + 1) q)
-put_two at p q xs room =
-    let a =
-    put_more 0 at 1 at (p ∷ q ∷ []) xs _ (omega arith) (omega arith) (omega arith)
-    (put_none at 1 (p ∷ q ∷ []) xs) in
-    put_more 1 at 1 (at + 1) (p ∷ q ∷ []) xs _ (omega arith) (omega arith) (omega arith) a
 
 module _ (t : ChromaFilter) (base along : ℕ) (sep : Strides 1 along) (xs ys zs : List ℕ) (j : ℕ) (less : j < 4)
     (done : Filtered j (kernel (chroma_of t)) base 1 along xs ys) (l : ChromaLine)

@@ -10,7 +10,6 @@ use Rattle.picture.specs.Plane.{Plane}
 use Rattle.picture.proofs.Index.{cases8}
 use Rattle.planes.specs.Window.{spot, window_at, Put}
 use Rattle.planes.proofs.Windows.{window_at_lem, put_none, put_more}
-use Rattle.window_lines.specs.declared.Lines.{Lines}
 use Rattle.window_lines.specs.Line.{line_at, lines_of}
 
 module _ (at step : ℕ) (l : Line) (xs : List ℕ) (p : 0 < step) (room : at + 7 * step < length xs) where

@@ -1,4 +1,5 @@
-// Lines of eight samples, `step` apart, read and written.
+// Lines of eight samples, `step` apart, read and written sample by sample: a line's fields are no list, so that a loop
+// over them would be no plainer.
 ghost use Rattle.std.specs.Prelude.{◌≡◌, ◌+◌, ◌*◌, ◌<◌, length};
 ghost use Rattle.filter.specs.Kernel.{samples_of};
 ghost use Rattle.planes.specs.Window.{Put, window_at};
