@@ -23,6 +23,10 @@ pub fn horiz_band_end(total: usize, height: usize, row: usize) -> usize
         return total;
     }
     let m = target % 8;
-    let end = if m <= 4 { target + 4 - m } else { target + 12 - m };
+    let end = if m <= 4 {
+        target + 4 - m
+    } else {
+        target + 12 - m
+    };
     end.min(total)
 }

@@ -3,4 +3,3 @@ pub mod Luma
 pub mod LumaTable
 pub mod Chroma
 pub mod Clipped
-pub mod Code
