@@ -16,7 +16,5 @@ pub(crate) fn moved(largest: u16, x: u16, d: u32) -> u16
     requires { d ≤ 131072 }
     ensures { result ≡ moved_n largest x d }
 {
-    ((x as u32) + d)
-        .min(65536 + (largest as u32))
-        .saturating_sub(65536) as u16
+    ((x as u32) + d).saturating_sub(65536).min(largest as u32) as u16
 }
