@@ -10,7 +10,7 @@ use lib.Dec.{eqb, leb, ltb}
 use lib.ListN.{length, get_or, get_or-eq_default}
 use borrow.Author.Tests.{eqb-true, leb-true, lt-ltb}
 use Rattle.ints.proofs.Laws.{either}
-use Rattle.thresholds.specs.Tables.{BETA, TC}
+use Rattle.thresholds.specs.Tables.{TC}
 
 -- ---- a test of a row's number and value that every row passes, by computation
 
@@ -47,14 +47,6 @@ most m l e q = go (either q (length l))
 pub rows_most : (q : ℕ) → get_or TC q 0 ≤ 24
 unfolding TC
 rows_most = most 24 TC refl
-
-pub beta_most : (q : ℕ) → get_or BETA q 0 ≤ 64
-unfolding BETA
-beta_most = most 64 BETA refl
-
-pub tc_most : (q : ℕ) → get_or TC q 0 ≤ 64
-unfolding TC
-tc_most = most 64 TC refl
 
 -- the rows below 18 are 0
 pub tc_none : (q : ℕ) → q < 18 → get_or TC q 0 ≡ 0

@@ -1,10 +1,10 @@
 -- `beta_row` meets its contract: the check finds the row, and no row is above 64.
 -- Assumes nothing.
-use Rattle.thresholds.specs.Tables.{BETA}
-use Rattle.thresholds.proofs.Rows.{beta_most}
+use mathlib.Core.Path.{refl}
+use Rattle.thresholds.specs.declared.tables.TheConstants.{BETA_ROWS}
+use Rattle.thresholds.proofs.Rows.{most}
 use Rattle.thresholds.proofs.tables.beta_row.Goals as goal
 
 pub returns-clause-upper_bound : goal.returns-clause-upper_bound
-unfolding BETA
 returns-clause-upper_bound c =
-    beta_most c.args.q
+    most 64 BETA_ROWS refl c.args.q
