@@ -8,4 +8,4 @@ use Rattle.sample_trips.proofs.comes_back.Goals as goal
 pub returns-in_default : goal.returns-in_default
 returns-in_default c =
     let told = taken_back _ _ _ c.requires.0 c.args.sample c.requires.1 _ c.sample_of.ensures in
-    absurd (c.if-back-sample.false (same_sample (sym (ap answer_of c.in-Sample.is) ∙ told)))
+    absurd (c.if-back-sample.false (same_sample (sym (ap answer_of c.in-Ok.is) ∙ told)))
