@@ -50,8 +50,8 @@ pub fn horizontal_chroma(s: &mut [u16], base: usize, across: usize, t: ChromaFil
     let b = filtered_chroma(s, at + 1, across, t);
     let c = filtered_chroma(s, at + 2, across, t);
     let d = filtered_chroma(s, at + 3, across, t);
-    put_row(s, at + across, [a.p0, b.p0, c.p0, d.p0]);
-    put_row(s, at + 2 * across, [a.q0, b.q0, c.q0, d.q0]);
+    put_row(s, at + across, a.p0, b.p0, c.p0, d.p0);
+    put_row(s, at + 2 * across, a.q0, b.q0, c.q0, d.q0);
 }
 
 // At a vertical edge: one line after the other.

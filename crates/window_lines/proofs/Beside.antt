@@ -1,39 +1,28 @@
 -- Four lines side by side: written row by row, they are laid in the window's place.
-use Prim.Native.Nat.{ℕ, ◌+◌, ◌-◌, ◌*◌, ◌≤◌, ◌<◌}
+use Prim.Native.Nat.{ℕ, ◌+◌, ◌*◌, ◌<◌}
 use mathlib.Core.Path.{◌≡◌, refl, ap, ◌∙◌}
 use mathlib.Core.List.{List, [], ◌∷◌}
 use mathlib.Core.Logic.{⊎_elim}
 use native.Mathlib.Omega.{arith}
-use lib.ListN.{length, get_or}
+use lib.ListN.{length, get_or, set}
 use Rattle.ints.proofs.Laws.{either}
 use Rattle.filter.specs.Kernel.{samples_of}
 use Rattle.lines.specs.declared.Line.{Line}
 use Rattle.picture.specs.Plane.{Plane}
 use Rattle.picture.proofs.Index.{cases4}
-use Rattle.planes.proofs.Parts.{back, length_back, back_before, back_in, back_after}
 use Rattle.planes.specs.Window.{spot, Strides, Filtered, Put}
+use Rattle.planes.proofs.Windows.{put_none, put_more}
 use Rattle.window_lines.specs.declared.Lines.{Lines}
 use Rattle.window_lines.specs.Line.{laid, line_in}
 
--- four samples that were copied into their place in a list
-pub put_four : (at : ℕ) (row xs ys : List ℕ) → at + 4 ≤ length xs → length row ≡ 4 → ys ≡ row
-    → Put 4 at 1 row xs (back at (at + 4 - at) xs ys)
-put_four at row xs ys room four copied =
-    let k : at + 4 - at ≡ 4 = omega arith in
-    let len : length ys ≡ 4 = ap length copied ∙ four in
-    rw k
-    (record {
-      len = length_back at 4 xs room ys len;
-      within = λ j hj. ap (λ (i : ℕ). get_or (back at 4 xs ys) i 0) (omega arith) ∙ back_in at 4 xs room ys len j hj
-          ∙ ap (λ (l : List ℕ). get_or l j 0) copied;
-      beyond = λ i h.
-          ⊎_elim
-          (λ less. back_before at 4 xs room ys len i less)
-          (λ le.
-          ⊎_elim (λ inside. absurd (h (i - at) (omega arith) (omega arith)))
-          (λ past. back_after at 4 xs room ys len i past) (either i (at + 4)))
-          (either i at);
-    })
+pub put_four : (at a b c d : ℕ) (xs : List ℕ) → at + 3 < length xs
+    → Put 4 at 1 (a ∷ b ∷ c ∷ d ∷ []) xs (set (set (set (set xs at a) (at + 1) b) (at + 2) c) (at + 3) d)
+put_four at a b c d xs room =
+    let v : List ℕ = a ∷ b ∷ c ∷ d ∷ [] in
+    let w = put_more 0 at 1 at v xs _ (omega arith) (omega arith) (omega arith) (put_none at 1 v xs) in
+    let x = put_more 1 at 1 (at + 1) v xs _ (omega arith) (omega arith) (omega arith) w in
+    let y = put_more 2 at 1 (at + 2) v xs _ (omega arith) (omega arith) (omega arith) x in
+    put_more 3 at 1 (at + 3) v xs _ (omega arith) (omega arith) (omega arith) y
 
 -- `after` is `before` with the first n rows of a window of four lines side by side written: sample i of line j is
 -- `samples i j`

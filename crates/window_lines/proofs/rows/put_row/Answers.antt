@@ -1,10 +1,10 @@
--- `put_row` meets its contract: the four samples stand where the slice was lent.
+-- `put_row` meets its contract: `put_four` puts the four stores together.
 -- Assumes nothing.
 use native.Mathlib.Omega.{arith}
-use borrow.Author.Rules.{rules}
+use lib.ListN.{length-set}
 use Rattle.window_lines.proofs.Beside.{put_four}
 use Rattle.window_lines.proofs.rows.put_row.Goals as goal
 
 pub returns : goal.returns
 returns c =
-    put_four _ _ _ _ (omega arith) (search rules) c.copy_from_slice.ensures.after
+    put_four _ _ _ _ _ c.args.s.now (omega arith)
