@@ -65,7 +65,15 @@ where
         rows,
     };
     let lent = lent_outputs(head);
-    answer(input, output, &Record { number, picture, lent })
+    answer(
+        input,
+        output,
+        &Record {
+            number,
+            picture,
+            lent,
+        },
+    )
 }
 
 // With the original planes.
@@ -95,12 +103,7 @@ where
 }
 
 // The next record.
-fn one_picture<R, W, F>(
-    input: &mut R,
-    output: &mut W,
-    number: u64,
-    answer: &F,
-) -> Result<(), Stop>
+fn one_picture<R, W, F>(input: &mut R, output: &mut W, number: u64, answer: &F) -> Result<(), Stop>
 where
     R: Read,
     W: Write,

@@ -22,7 +22,12 @@ pub fn run_stage<R: Read, W: Write>(input: &mut R, output: &mut W) {
 pub fn run_moves<R: Read, W: Write>(input: &mut R, output: &mut W) {
     each_picture(input, output, |_, output, record| {
         with_stage(record, |verdict, out| {
-            put_moves(output, record.number, verdict, Moves::of(&record.picture.planes, out))
+            put_moves(
+                output,
+                record.number,
+                verdict,
+                Moves::of(&record.picture.planes, out),
+            )
         })?;
         Ok(())
     });
@@ -63,7 +68,12 @@ pub fn run_pixels<R: Read, W: Write>(input: &mut R, output: &mut W) {
         let mut at = [0u8; 8];
         read_bytes(input, &mut at)?;
         let picture = &record.picture;
-        let pixel = pixel_at(picture.settings, &picture.planes, word(&at, 0), word(&at, 1));
+        let pixel = pixel_at(
+            picture.settings,
+            &picture.planes,
+            word(&at, 0),
+            word(&at, 1),
+        );
         put_pixel(output, record.number, pixel)?;
         Ok(())
     });

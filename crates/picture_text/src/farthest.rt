@@ -9,9 +9,8 @@ use crate::words::put_refused;
 use ledger::Verdict;
 use moves::{Move, farthest_move};
 use picture::Planes;
-use std::fmt;
-use std::io;
 use std::io::Write;
+use std::{fmt, io};
 
 // The farthest moves of the three planes. No one type with `Fingerprints`, which prints in another form.
 #[derive(Clone, Copy)]

@@ -17,5 +17,10 @@ pub fn put_line<W: Write>(
     ensures { OnOk result (Appends (W.contents output.old) (W.contents output.new)
         (picture_line number verdict prints)) }
 {
-    writeln!(output, "{number} {} {} {prints}", number_of(verdict), place_of(verdict))
+    writeln!(
+        output,
+        "{number} {} {} {prints}",
+        number_of(verdict),
+        place_of(verdict)
+    )
 }

@@ -7,9 +7,8 @@ ghost use Rattle.picture_text.specs.Lines.{hex, fingerprints_of, fingerprints_te
 use fingerprint::fingerprint;
 use ledger::Refusal;
 use picture::Planes;
-use std::fmt;
-use std::io;
 use std::io::Write;
+use std::{fmt, io};
 
 // A number in N hexadecimal digits.
 #[derive(Clone, Copy)]

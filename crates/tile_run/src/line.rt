@@ -8,9 +8,8 @@ ghost use Rattle.tile_run.specs.Lines.{trial_text, differing_line, tile_line, cu
 use fingerprint::plane_fingerprint;
 use picture::Planes;
 use picture_text::Fingerprints;
-use std::fmt;
-use std::io;
 use std::io::Write;
+use std::{fmt, io};
 use tile_check::TileRefusal;
 use tile_parts::{CutSize, TileAt};
 
@@ -74,7 +73,12 @@ pub(crate) fn put_tile<W: Write>(
     match answer {
         Ok(count) => put_differing(output, trial, count, cut_fingerprints(luma, chroma, own)),
         Err(TileRefusal::Picture(refusal)) => {
-            writeln!(output, "{trial} refused {} {}", refusal.number(), refusal.place())
+            writeln!(
+                output,
+                "{trial} refused {} {}",
+                refusal.number(),
+                refusal.place()
+            )
         }
         Err(TileRefusal::NoTile) => writeln!(output, "{trial} no tile"),
         Err(TileRefusal::Lengths) => writeln!(output, "{trial} lengths"),
