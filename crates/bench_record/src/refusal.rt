@@ -37,6 +37,7 @@ impl RecordRefusal {
     }
 }
 
+// As `bad_depth` of checks, of a byte: for one comparison the bench takes in no crate of the stage.
 fn depth_bad(depth: u8) -> bool
     ensures { result ≡ depth_bad depth }
 {

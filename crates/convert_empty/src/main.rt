@@ -1,4 +1,5 @@
-// convert_cells on empty input, which prints nothing.
+// convert_cells on empty input, which prints nothing. A crate of its own, since `rt ci` runs a crate's program once, on
+// one stdin.
 #![tactic(auto)]
 
 fn main(rt: HostRuntime) {

@@ -1,4 +1,5 @@
-// The segment bench. Its stdin here is case S1 of the scope document as one record.
+// The segment bench. Its stdin here is case S1 of the scope document as one record. Each run of it that is stored is a
+// crate of its own, since `rt ci` runs a crate's program once, on one stdin.
 #![tactic(auto)]
 
 fn main(rt: HostRuntime) {
