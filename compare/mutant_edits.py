@@ -73,14 +73,14 @@ DECISION = [
 ]
 
 WINDOWS = [
-    Edit("window_lines/rows", "base + across, [a.p2, b.p2, c.p2, d.p2]", "base + across, [a.p2, c.p2, b.p2, d.p2]"),
-    Edit("window_lines/rows", "[a.q2, b.q2, c.q2, d.q2]", "[a.q2, b.q2, c.q2, c.q2]"),
+    Edit("window_lines/rows", "base + across, a.p2, b.p2, c.p2, d.p2)", "base + across, a.p2, c.p2, b.p2, d.p2)"),
+    Edit("window_lines/rows", "a.q2, b.q2, c.q2, d.q2)", "a.q2, b.q2, c.q2, c.q2)"),
     Edit("luma_windows/rows", "across, v);",
          "across, Lines { l0: v.l0, l1: v.l1, l2: v.l2, l3: weak_line(t.largest, t.tc, do_q1, do_p1, w.l3) });"),
     Edit("window_lines/line", "take_line(s, base + 2 * along, across)", "take_line(s, base + along, across)"),
     Edit("luma_windows/turned", "take_line(&t[..], j, 4)", "take_line(&t[..], 3 - j, 4)"),
     Edit("luma_windows/luma", "if let LumaDecision::Skip = d {", "if let LumaDecision::Strong = d {"),
-    Edit("chroma_windows/chroma", "at + across, [a.p0, b.p0, c.p0, d.p0]", "at + across, [a.p0, c.p0, b.p0, d.p0]"),
+    Edit("chroma_windows/chroma", "at + across, a.p0, b.p0, c.p0, d.p0)", "at + across, a.p0, c.p0, b.p0, d.p0)"),
     Edit("chroma_windows/chroma", "let at = base + 2 * across;", "let at = base + 1 * across;"),
     Edit("chroma_windows/chroma", "put_pair(s, at + 1, l.p0, l.q0)", "put_pair(s, at + 1, l.p0, l.q1)"),
 ]
@@ -531,7 +531,7 @@ ASKED = [
 # What the gate's programs print of them: column and row exchanged, a pixel outside told as 15, Cb before luma; of a float the other kind,
 # a NaN's pattern taken for a number, 14 for 15.
 SHOWN = [
-    Edit("picture_run/runs", "word(&at, 0), word(&at, 1)", "word(&at, 1), word(&at, 0)"),
+    Edit("picture_run/runs", "word(&at, 0),\n            word(&at, 1),", "word(&at, 1),\n            word(&at, 0),"),
     Edit("picture_text/floats", "{number} 14 0", "{number} 15 0"),
     Edit("picture_text/floats", "{luma} {cb} {cr}", "{cb} {luma} {cr}"),
 ]
