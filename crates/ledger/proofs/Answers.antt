@@ -96,6 +96,10 @@ sizes_fit s good =
     let h = once_out (bad_size s.width ++ bad_size s.height) good in
     search to_fact depth 1
 
+pub depths_fit : (s : Code.Settings) → NoneOf (bad_depths (settings_of s))
+    → (s.luma_depth ≤ 16) × (s.chroma_depth ≤ 16)
+depths_fit s h = search to_fact depth 1
+
 module _ (s : Code.Settings) (good : AllGood (settings_part (bare s))) where
   pub sizes : (s.width ≤ 8192) × (s.height ≤ 8192)
   sizes = sizes_fit s good.0

@@ -1,7 +1,7 @@
 -- The decision of the definitions, by the four activities, their sums and the two line decisions, in the order of
 -- 8.7.2.5.3, of what the code's calls and tests gave.
 use Prim.Native.Nat.{ℕ, ◌+◌, ◌*◌, ◌/◌, ◌≤◌, ◌<◌}
-use mathlib.Core.Path.{◌≡◌, sym, ◌∙◌, ap₂}
+use mathlib.Core.Path.{◌≡◌, refl, sym, ◌∙◌, ap, ap₂}
 use mathlib.Core.Bool.{Bool, true, false, cond, ◌&&◌}
 use lib.Dec.{ltb}
 use borrow.Author.Tests.{lt-ltb, le-ltb}
@@ -63,3 +63,13 @@ module _ (β tc : ℕ) {l0 l3 : Line} {dp0 dp3 dq0 dq3 : ℕ} (are : Activities 
 
       pub decided_strong : flat ≡ true → Strong ≡ case_of (decision β tc l0 l3)
       decided_strong y = rw y at by_lines
+
+    -- the same by the two line decisions, one after the other
+    module _ {dSam0 : Bool} (s0 : dSam0 ≡ d_sam_n β tc (2 * (dp0 + dq0)) l0.p3 l0.p0 l0.q0 l0.q3) where
+      pub decided_weak0 : dSam0 ≡ false → weak β (dp0 + dp3) (dq0 + dq3) ≡ case_of (decision β tc l0 l3)
+      decided_weak0 n0 =
+          decided_weak refl (ap (λ b. b && line_flat β tc (2 * (dp3 + dq3)) l3) (sym s0 ∙ n0))
+
+      pub decided_weak3 : dSam0 ≡ true → {dSam3 : Bool} → dSam3 ≡ d_sam_n β tc (2 * (dp3 + dq3)) l3.p3 l3.p0 l3.q0 l3.q3
+          → dSam3 ≡ false → weak β (dp0 + dp3) (dq0 + dq3) ≡ case_of (decision β tc l0 l3)
+      decided_weak3 y0 s3 n3 = decided_weak refl (ap₂ ◌&&◌ (sym s0 ∙ y0) (sym s3 ∙ n3))
