@@ -12,7 +12,7 @@ use Rattle.picture.specs.declared.Settings as Code
 use Rattle.picture.specs.Given.{bare, picture_of, settings_of}
 use Rattle.picture.specs.Ledger.{Entry, Verdict, any_of, entry, first_of, once, place_of}
 use Rattle.picture.specs.Picture.{Picture, Planes}
-use Rattle.picture.proofs.Ledger.{AllGood, AllNumbered, Good, good_out, none_out, none_part, once_out}
+use Rattle.picture.proofs.Ledger.{AllGood, AllNumbered, Good, NoneOf, good_out, none_out, none_part, once_out}
 use Rattle.picture.proofs.Ledger.{passed, to_fact}
 use Rattle.checks.specs.Lengths.{bad_lengths}
 use Rattle.ledger.specs.declared.Refusal.{Refusal}
