@@ -21,7 +21,7 @@ pub struct Head {
 #[derive(Clone, Copy)]
 pub struct Record<'a> {
     pub bytes: &'a [u8],
-    ghost whole: { 72 ≤ length bytes.now },
+    pub ghost whole: { 72 ≤ length bytes.now },
 }
 
 impl<'a> Record<'a> {
@@ -35,6 +35,7 @@ impl<'a> Record<'a> {
         Some(Record { bytes: input })
     }
 
+    // Field by field, which is no longer than naming each byte's place elsewhere: no derive reads a struct from bytes.
     pub fn head(self) -> Head
         ensures { result ≡ head_of self.entry.bytes.now }
     {

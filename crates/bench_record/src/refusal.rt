@@ -37,7 +37,8 @@ impl RecordRefusal {
     }
 }
 
-// As `bad_depth` of checks, of a byte: for one comparison the bench takes in no crate of the stage.
+// As `bad_depth` of checks, of a byte. One function for both would be no plainer: it is one comparison, and what the
+// bench stands on is below checks.
 fn depth_bad(depth: u8) -> bool
     ensures { result ≡ depth_bad depth }
 {

@@ -1,6 +1,6 @@
 // Cause 6 of the ledger: the lengths. The sizes were checked before, so that the products fit. Each function asks for
 // their bound by itself: README names this crate, and a type that held the bound would ask more of its callers.
-ghost use Rattle.std.specs.Prelude.{◌≤◌, ◌≡◌};
+ghost use Rattle.std.specs.Prelude.{◌≤◌, ◌≡◌, length};
 ghost use Rattle.picture.specs.Causes.{bad_cells};
 ghost use Rattle.picture.specs.Given.{bare};
 ghost use Rattle.picture.specs.Ledger.{any_of};
@@ -51,12 +51,16 @@ pub fn bad_lent(settings: Settings, lent: Option<OutputLengths>) -> bool
 }
 
 // The cell list is not of its exact length; slice bytes not a multiple of 4 or above 2,400; too few or too many tile
-// starts. The lists are given by their lengths.
-fn bad_lists(settings: Settings, cells: usize, slices: usize, columns: usize, rows: usize) -> bool
-    requires { (settings.width ≤ 8192) × (settings.height ≤ 8192) }
-    ensures { result ≡ any_of (list_tests (bare settings) cells slices columns rows) }
+// starts.
+fn bad_lists(picture: &Picture<'_>) -> bool
+    requires { (picture.now.settings.width ≤ 8192) × (picture.now.settings.height ≤ 8192) }
+    ensures { result ≡ any_of (list_tests (bare picture.now.settings) (length picture.now.cells.now)
+        (length picture.now.slices.now) (length picture.now.columns.now) (length picture.now.rows.now)) }
 {
-    bad_cell_bytes(settings, cells)
+    let slices = picture.slices.len();
+    let columns = picture.columns.len();
+    let rows = picture.rows.len();
+    bad_cell_bytes(picture.settings, picture.cells.len())
         | (slices % 4 != 0)
         | (2400 < slices)
         | (columns < 1)
@@ -76,11 +80,5 @@ pub fn bad_lengths(picture: &Picture<'_>, lent: Option<OutputLengths>) -> bool
     let planes = picture.planes;
     bad_planes(settings, planes.y.len(), planes.cb.len(), planes.cr.len())
         | bad_lent(settings, lent)
-        | bad_lists(
-            settings,
-            picture.cells.len(),
-            picture.slices.len(),
-            picture.columns.len(),
-            picture.rows.len(),
-        )
+        | bad_lists(picture)
 }

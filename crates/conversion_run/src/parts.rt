@@ -31,7 +31,8 @@ fn read_some<R: Read, E: Write>(input: &mut R, errors: &mut E, list: &mut [u8]) 
 }
 
 // Fills the list as far as the input goes, and answers how far. std's `read_exact` does so too, but does not say how
-// far it came. A `while`, since a turn goes on by as much as the read gave.
+// far it came. A `while`, since a turn goes on by as much as the read gave. It is not bench_run's, which takes a failed
+// read for the end and says nothing of it.
 fn fill<R: Read, E: Write>(input: &mut R, errors: &mut E, list: &mut [u8]) -> usize
     ensures in_bounds { result ≤ length list.old }
     ensures bytes { Consumes (R.remaining input.old) (R.remaining input.new) (take result list.new) }

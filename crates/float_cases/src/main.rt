@@ -11,7 +11,7 @@ use picture_text::put_recovered;
 use recogniser::sample_of;
 use std::io::{Read, Write};
 
-// The float of a bit pattern. Rattle has one NaN, which has no pattern: 0/0 makes it.
+// The float of a bit pattern. Rattle has one NaN, which has no pattern, so that `from_bits` takes none: 0/0 makes it.
 fn float_of(bits: u32) -> f32
     ensures { result ≡ of_bits binary32 bits }
 {

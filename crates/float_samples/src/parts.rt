@@ -64,7 +64,7 @@ pub fn part(depth: u32, chroma: bool, sample: u16) -> f32
     }
 }
 
-// Of the three samples of a pixel.
+// Of the three samples of a pixel, which are no planes.
 pub fn colour_of(luma_depth: u32, chroma_depth: u32, y: u16, cb: u16, cr: u16) -> Colour
     requires depth_ok { DepthOk luma_depth × DepthOk chroma_depth }
     requires y_bound { (y < 2 ^ luma_depth) × (cb < 2 ^ chroma_depth) × (cr < 2 ^ chroma_depth) }

@@ -7,7 +7,7 @@ ghost use Rattle.float_samples.specs.Sample.{DepthOk, Gives};
 use crate::parts::{middle, part, power};
 use std::num::truncating_f32_to_u64;
 
-// Both are numbers, and of one bit pattern.
+// Both are numbers, and of one bit pattern: `==` would take -0.0 for 0.0.
 fn same(a: f32, b: f32) -> bool
     ensures { (result ≡ true → a ≡ b) × (T (not (is_nan a)) → a ≡ b → result ≡ true) }
 {

@@ -14,8 +14,8 @@ pub fn is_plane(samples: &[u16], width: usize, height: usize) -> bool
     }
 }
 
-// The view of a plane. Samples that are no plane of that size have a view of 0 by 0, so that every place is outside;
-// `is_plane` tells it.
+// The view of a plane. It cannot fail, and README names it: samples that are no plane of that size have a view of 0 by
+// 0, so that every place is outside; `is_plane` tells it.
 pub fn plane_view<'a>(samples: &'a [u16], width: usize, height: usize) -> PlaneView<'a>
     ensures samples { result.samples ≡ samples.entry }
     ensures width { result.width ≡ (view_size samples.now width height).width }

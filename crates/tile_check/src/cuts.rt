@@ -25,7 +25,8 @@ pub(crate) fn alone(settings: Settings, luma: Part) -> Settings
 }
 
 // The stage on the cut, which is one tile: the starts are 0 and 0. Its answer is dropped: the cut of an accepted
-// picture is accepted (term 3), and `outputs` says what is left in either case.
+// picture is accepted (term 3), and `outputs` says what is left in either case. The lists of the cut become a `Picture`
+// here: before, no struct holds them.
 fn filter_cut(
     settings: Settings,
     planes: &Planes<'_>,

@@ -8,7 +8,8 @@ mod tiles;
 
 pub use tiles::tile_lines;
 
-// How many samples are lent for each of three planes. `lent_planes` of specs/CutLists speaks of it by its name.
+// How many samples are lent for each of three planes. No tuple or array: the definition `lent_planes` of
+// specs/CutLists speaks of it by its name.
 #[derive(Clone, Copy)]
 pub struct LentSamples {
     pub y: usize,

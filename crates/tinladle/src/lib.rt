@@ -1,5 +1,5 @@
 // The filter for programs in other languages, under C's calling convention: a module for each function.
-// include/tinladle.h declares them.
+// include/tinladle.h declares them; C's interface is lists and numbers, so that they stay parameters here.
 #![tactic(auto)]
 
 mod cells;

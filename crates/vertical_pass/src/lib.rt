@@ -36,7 +36,8 @@ pub fn vertical_pass(s: &mut [u16], input: &PassInput<'_>)
 {
     let f = input.frame;
     let mut r = 0;
-    // No range: `ctb_band_end` says where a band ends.
+    // A `while`: its invariant holds the bands' ends to the definition's list, and the edit bands_of_another_height,
+    // which changes no sample, is refused for that alone (docs/DECISIONS.md, 26).
     while r < f.rows {
         let end = ctb_band_end(f.rows, f.band, r);
         let a = r * f.columns;
