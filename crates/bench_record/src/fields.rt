@@ -27,7 +27,8 @@ pub struct Record<'a> {
 impl<'a> Record<'a> {
     // The record that these bytes begin with, where there are so many.
     pub fn first(input: &'a [u8]) -> Option<Record<'a>>
-        ensures { MatchOption result (length input.now < 72) (λ r. (72 ≤ length input.now) × (r.bytes.now ≡ input.now)) }
+        ensures { MatchOption result (length input.now < 72)
+            (λ r. (72 ≤ length input.now) × (r.bytes.now ≡ input.now)) }
     {
         if input.len() < 72 {
             return None;

@@ -8,8 +8,8 @@ use std::io;
 use std::io::{Read, Write};
 
 // Fills the list as far as the input goes, and answers how far; a read that fails ends the input. std's `read_exact`
-// fills it too, but does not say how far it came. A `while`, since a turn goes on by as much as the read gave. It is not
-// conversion_run's, which says a failed read on the error stream.
+// fills it too, but does not say how far it came. A `while`, since a turn goes on by as much as the read gave. It is
+// not conversion_run's, which says a failed read on the error stream.
 fn fill<R: Read>(input: &mut R, list: &mut [u8]) -> usize
     ensures { result ≤ length list.old }
 {

@@ -23,7 +23,8 @@ fn convert_record(cells: &mut [u8], n: usize)
     cells[at + 3] = horizontal;
 }
 
-// All whole records in place. They go by number: once `chunks_exact_mut` is over, a proof knows the list's length alone.
+// All whole records in place. They go by number: once `chunks_exact_mut` is over, a proof knows the list's length and
+// no more.
 fn convert_records(cells: &mut [u8])
     ensures { cells.new ≡ converted cells.old }
 {

@@ -18,8 +18,8 @@ fn say<E: Write>(errors: &mut E, what: &[u8]) {
     let _ = errors.write_all(what);
 }
 
-// One read, and how many bytes it gave: none at the end of the input, nor where it fails, which is said. An Option would
-// be no plainer: the list ends in either case.
+// One read, and how many bytes it gave: none at the end of the input, nor where it fails, which is said. An Option
+// would be no plainer: the list ends in either case.
 fn read_some<R: Read, E: Write>(input: &mut R, errors: &mut E, list: &mut [u8]) -> usize
     ensures in_bounds { result ≤ length list.old }
     ensures bytes { Consumes (R.remaining input.old) (R.remaining input.new) (take result list.new) }

@@ -11,8 +11,8 @@ use ints::largest_at;
 use picture::{LumaColumn, Settings, chroma_rows, row_of_cells};
 use segments::Frame;
 
-// The Cb or Cr offset plus 12, so that it is no longer signed. The `as` loses nothing, by the clause; a `try_from` would
-// be no plainer, since it asks for an answer that cannot come.
+// The Cb or Cr offset plus 12, so that it is no longer signed. The `as` loses nothing, by the clause; a `try_from`
+// would be no plainer, since it asks for an answer that cannot come.
 pub(crate) fn biased_offset(offset: i32) -> u8
     requires { OffsetOk offset }
     ensures { result ⊖ 12 ≡ offset }

@@ -11,8 +11,8 @@ use segments::{Frame, PassInput};
 use vertical_pass::vertical_pass;
 
 // Output starts as the original; then vertical edges, restoration, horizontal edges on that result, restoration. What
-// differs by component, `original`, k and f, and what is made once for all, the table and r, stay parameters: one struct
-// of them would be built for one call.
+// differs by component, `original`, k and f, and what is made once for all, the table and r, stay parameters: one
+// struct of them would be built for one call.
 pub(crate) fn finish_plane(
     out: &mut [u16],
     original: &[u16],

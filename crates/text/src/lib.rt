@@ -75,8 +75,8 @@ impl<const N: usize> Text<N> {
         self.push_byte(after);
     }
 
-    // Asks room for n's own digits and no more, so that the call for the digits before the last can be met. By hand, not
-    // by `write!`, since the edits wrong_zero and last_digit_over_the_first of must-fail/ change a digit.
+    // Asks room for n's own digits and no more, so that the call for the digits before the last can be met. By hand,
+    // not by `write!`, since the edits wrong_zero and last_digit_over_the_first of must-fail/ change a digit.
     fn push_digits(&mut self, n: u16)
         requires { length self.old + length (decimal n) ≤ N }
         ensures { self.new ≡ self.old ++ decimal n }
