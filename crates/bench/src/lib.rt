@@ -13,7 +13,8 @@ use text::Text;
 // The text of a record; none is longer than 25 + 4 * 48 bytes.
 // The input is what was left to read. Where that is more than a record, the first one counts.
 pub fn bench_text(input: &[u8]) -> Text<256>
-    ensures { result ≡ bench_text input.now }
+    ensures text { result ≡ bench_text input.now }
+    ensures upper_bound { length result ≤ 256 }
 {
     let mut text = Text::new();
     if let Some(r) = Record::first(input) {
@@ -27,7 +28,8 @@ pub fn bench_text(input: &[u8]) -> Text<256>
 // A whole record: its refusal, or its segment.
 fn put_record(out: &mut Text<256>, r: Record<'_>)
     requires { length out.old + 217 ≤ 256 }
-    ensures { out.new ≡ out.old ++ record_text r.entry.bytes.now }
+    ensures puts { out.new ≡ out.old ++ record_text r.entry.bytes.now }
+    ensures upper_bound { length out.new ≤ length out.old + 217 }
 {
     match r.check() {
         Ok(()) => put_segment(out, r),

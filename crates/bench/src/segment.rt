@@ -69,7 +69,8 @@ fn filtered(d: LumaDecision, t: Thresholds, all: [Line; 4]) -> [Line; 4]
 pub(crate) fn put_segment(out: &mut Text<256>, r: Record<'_>)
     requires room { length out.old + 217 ≤ 256 }
     requires accepted { refusal_of r.bytes.now ≡ 0 }
-    ensures { out.new ≡ out.old ++ segment_text r.entry.bytes.now }
+    ensures puts { out.new ≡ out.old ++ segment_text r.entry.bytes.now }
+    ensures upper_bound { length out.new ≤ length out.old + 217 }
 {
     let t = thresholds_of(r.head());
     let all = r.lines();

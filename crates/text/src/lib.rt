@@ -1,9 +1,13 @@
-// Text in a buffer of fixed size, put together from its front: bytes, and numbers in decimal.
+// Text put together from its front, bytes and numbers in decimal: in a buffer that the caller lends, or in a `Text`,
+// which has its own.
 #![tactic(auto)]
 
 ghost use Rattle.std.specs.Prelude.{◌≡◌, ◌+◌, ◌≤◌, ◌<◌, [], ◌∷◌, ◌++◌, length};
 ghost use Rattle.text.specs.Text.{decimal};
 
+mod puts;
+
+pub use puts::{put_byte, put_bytes, put_number, put_number_then};
 use std::marker::Model;
 
 // The text has N bytes at most. What stands in the buffer past its length is no part of it.
@@ -34,7 +38,8 @@ impl<const N: usize> Text<N> {
     }
 
     pub fn bytes(&self) -> &[u8]
-        ensures { result.now ≡ self.now }
+        ensures value { result.now ≡ self.now }
+        ensures upper_bound { length result.now ≤ N }
     {
         &self.buffer[..self.len]
     }
@@ -43,17 +48,14 @@ impl<const N: usize> Text<N> {
         requires { length self.old < N }
         ensures { self.new ≡ self.old ++ (b ∷ []) }
     {
-        self.buffer[self.len] = b;
-        self.len += 1;
+        self.len = put_byte(&mut self.buffer, self.len, b);
     }
 
     pub fn push_bytes(&mut self, bytes: &[u8])
         requires { length self.old + length bytes.now ≤ N }
         ensures { self.new ≡ self.old ++ bytes.now }
     {
-        for b in bytes {
-            self.push_byte(*b);
-        }
+        self.len = put_bytes(&mut self.buffer, self.len, bytes);
     }
 
     // A u16 has five digits at most.
@@ -62,7 +64,7 @@ impl<const N: usize> Text<N> {
         ensures puts { self.new ≡ self.old ++ decimal n }
         ensures upper_bound { length self.new ≤ length self.old + 5 }
     {
-        self.push_digits(n);
+        self.len = put_number(&mut self.buffer, self.len, n);
     }
 
     // A number and the byte after it.
@@ -71,19 +73,6 @@ impl<const N: usize> Text<N> {
         ensures puts { self.new ≡ self.old ++ (decimal n ++ (after ∷ [])) }
         ensures upper_bound { length self.new ≤ length self.old + 6 }
     {
-        self.push_number(n);
-        self.push_byte(after);
-    }
-
-    // Asks room for n's own digits and no more, so that the call for the digits before the last can be met. By hand,
-    // not by `write!`, since the edits wrong_zero and last_digit_over_the_first of must-fail/ change a digit.
-    fn push_digits(&mut self, n: u16)
-        requires { length self.old + length (decimal n) ≤ N }
-        ensures { self.new ≡ self.old ++ decimal n }
-    {
-        if n >= 10 {
-            self.push_digits(n / 10);
-        }
-        self.push_byte(b'0' + (n % 10) as u8);
+        self.len = put_number_then(&mut self.buffer, self.len, n, after);
     }
 }

@@ -9,8 +9,8 @@ pub thresholds_of-t-requires : goal.thresholds_of-t-requires
 thresholds_of-t-requires c =
     rw c.head.ensures (accepted _ c.requires.accepted)
 
-pub returns : goal.returns
-returns c =
+pub returns-clause-puts : goal.returns-clause-puts
+returns-clause-puts c =
     let decided = rw c.lines-all.ensures at c.decide-answer.ensures in
     let made =
     segment_made _ c.head.ensures c.thresholds_of-t.ensures c.lines-all.ensures decided c.filtered.ensures
