@@ -2,13 +2,11 @@
 -- Assumes nothing.
 use Rattle.std.proofs.Common.{◌≡◌, ℕ, ◌+◌, ◌*◌, ◌<◌, ◌≤◌, Bool, true, false, cond, List, [], ◌∷◌, ◌++◌}
 use Rattle.std.proofs.Common.{length, take, drop, sym, refl, ap, ◌∙◌, le_trans, mul-le-mul_right, mul_comm, add-mul}
-use Rattle.std.proofs.Common.{arith, length-take, take_all, drop-cons, take-take, drop-drop, take-add}
-use Rattle.std.proofs.Common.{lt-ltb, eq-eqb, eqb-true, ne_eqb}
+use Rattle.std.proofs.Common.{mul-one, arith, length-take, take_all, drop-cons, take-take, drop-drop, take-add}
+use Rattle.std.proofs.Common.{eq-eqb, eqb-true, ne_eqb}
 use Rattle.picture.specs.Plane.{at}
-use Rattle.std.specs.List.{fold}
 use Rattle.plane_view.proofs.Places.{place_of, size_at}
-use Rattle.plane_view.specs.View.{is_plane, sample_in, view_size}
-use Rattle.std.specs.Prelude.{Some}
+use Rattle.plane_view.specs.View.{is_plane, view_size}
 use Rattle.fingerprint.specs.Fnv.{basis, step, with_samples, shown, row_shown}
 use Rattle.fingerprint.specs.Fnv.{list_fingerprint, plane_fingerprint}
 
@@ -26,10 +24,6 @@ module _ (list : List ℕ) (width height : ℕ) where
   module _ (whole : length list ≡ width * height) (x y : ℕ) (column : x < width) (row : y < height) where
     there : y * width + x < length list
     there = omega (arith, whole, place_of column row)
-
-    pub read : sample_in list width height x y ≡ Some (at list width x y)
-    unfolding at
-    read = simp (lt-ltb x width column, lt-ltb y height row, lt-ltb (y * width + x) (length list) there)
 
     one_sample : (n : ℕ) → step n (at list width x y)
         ≡ with_samples n (take 1 (drop (y * width + x) (shown list width height)))
@@ -91,7 +85,7 @@ pub seen : (list : List ℕ) (w h : ℕ)
 unfolding plane_fingerprint
 seen list w h = ap list_fingerprint (seen_at list w h (is_plane list w h) refl)
 
--- the samples of a list, one by one
-pub folded : (h : ℕ) (list : List ℕ) → fold step h list ≡ with_samples h list
-folded h [] = refl
-folded h (sample ∷ r) = folded (step h sample) r
+-- a list is a plane of one row
+pub one_row : (list : List ℕ) → plane_fingerprint list (length list) 1 ≡ list_fingerprint list
+unfolding shown plane_fingerprint
+one_row list = rw (mul-one, eq-eqb (length list) (length list) refl) refl

@@ -46,10 +46,9 @@ pub fn plane_fingerprint(plane: &[u16], width: usize, height: usize) -> u64
     sum
 }
 
-// Of all samples of a list, of whatever length.
+// Of all samples of a list, of whatever length: one row.
 pub fn fingerprint(list: &[u16]) -> u64
     ensures { result ≡ list_fingerprint list.now }
 {
-    list.iter()
-        .fold(BASIS, |sum, sample| with_word(sum, *sample as u32))
+    plane_fingerprint(list, list.len(), 1)
 }

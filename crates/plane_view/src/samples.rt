@@ -49,9 +49,10 @@ impl<'a> PlaneView<'a> {
         self.height
     }
 
-    // The sample at column x of row y.
+    // The sample at column x of row y, and so that of the plane.
     pub fn sample_at(self, x: usize, y: usize) -> Option<u16>
-        ensures { result ≡ sample_in self.entry.samples.now self.entry.width self.entry.height x y }
+        ensures view { result ≡ sample_in self.entry.samples.now self.entry.width self.entry.height x y }
+        ensures plane { result ≡ plane_sample self.entry.samples.now self.entry.width self.entry.height x y }
     {
         if self.width <= x {
             return None;

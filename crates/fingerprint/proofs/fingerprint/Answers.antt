@@ -1,13 +1,9 @@
--- `fingerprint` meets its contract: the samples are taken one by one.
+-- `fingerprint` meets its contract: a list is a plane of one row.
 -- Assumes nothing.
-use Rattle.std.proofs.Common.{◌≡◌, ◌∙◌, rules}
-use Rattle.std.specs.List.{fold}
-use Rattle.fingerprint.specs.Fnv.{basis, list_fingerprint, step}
-use Rattle.fingerprint.proofs.Rows.{folded}
+use Rattle.std.proofs.Common.{◌∙◌}
+use Rattle.fingerprint.proofs.Rows.{one_row}
 use Rattle.fingerprint.proofs.fingerprint.Goals as goal
 
 pub returns : goal.returns
-unfolding list_fingerprint
 returns c =
-    let all : c.fold.result ≡ fold step basis c.args.list.now = search rules in
-    all ∙ folded basis c.args.list.now
+    c.plane_fingerprint.ensures ∙ one_row _

@@ -2,7 +2,8 @@
 -- Assumes nothing.
 use Rattle.std.proofs.Common.{◌≡◌, ◌*◌, length, ap, ◌∙◌, arith}
 use Rattle.picture.specs.Plane.{at}
-use Rattle.fingerprint.proofs.Rows.{read, row_all, row_more}
+use Rattle.plane_view.proofs.Known.{inside}
+use Rattle.fingerprint.proofs.Rows.{row_all, row_more}
 use Rattle.fingerprint.specs.Fnv.{step}
 use Rattle.fingerprint.proofs.with_row.Goals as goal
 use Rattle.fingerprint.proofs.with_row.Goals.{in-Some, in_default, Joined-sample_at}
@@ -15,8 +16,7 @@ pub loop-x-preserved : goal.loop-x-preserved
 loop-x-preserved c =
     let v = c.args.plane in
     let x = c.loop-x.x in
-    let there = c.sample_at.ensures
-    ∙ read v.samples.now v.width v.height (whole c) x c.args.y (omega arith) c.requires in
+    let there = c.sample_at.ensures.plane ∙ inside v.samples.now (whole c) (omega arith) c.requires in
     elim c.match-sample_at.branch [
       | in-Some w ↦
           let same : w.in-Some.sample ≡ at v.samples.now v.width x c.args.y = cc in

@@ -9,7 +9,7 @@ pub returns : goal.returns
 returns c =
     let a = c.args in
     let view = c.plane_view.result in
-    c.sample_at.ensures
+    c.sample_at.ensures.view
     ∙ ap (λ (list : Bor (List ℕ)). sample_in list.now view.width view.height a.x a.y) c.plane_view.ensures.samples
     ∙ ap₂ (λ (m n : ℕ). sample_in a.samples.now m n a.x a.y) c.plane_view.ensures.width c.plane_view.ensures.height
     ∙ seen a.samples.now a.width a.height a.x a.y
