@@ -6,7 +6,7 @@ use Rattle.filter.specs.Segment.{Position}
 use Rattle.segments.specs.Input.{sides_in}
 use Rattle.segments.specs.Listed.{Listed}
 use Rattle.segments.proofs.Looks.{segment_made}
-use Rattle.segments.proofs.Positions.{listed, slice_listed, in_range}
+use Rattle.segments.proofs.Positions.{segment_listed, sides_listed, sides_in_range}
 use Rattle.segments.proofs.at.filter_at.Goals as goal
 use Rattle.segments.proofs.at.filter_at.Goals.{After-strength}
 
@@ -14,21 +14,21 @@ pub sides_of-v-requires-clause-listed : goal.sides_of-v-requires-clause-listed
 sides_of-v-requires-clause-listed g c =
     let i = c.args.input.now in
     subst (λ (a : Position). Listed i.cells.now i.frame.cell_columns.0 a.x a.y) (sym c.position_q.ensures)
-    (listed g.D.EdgeDirection.direction i.component i.frame i.ready c.args.e c.args.l c.requires.on_edge.1
+    (segment_listed g.D.EdgeDirection.direction i.component i.frame i.ready c.args.e c.args.l c.requires.on_edge.1
     c.requires.on_edge.2)
 
 pub segment_filter-requires-clause-slice_bound : goal.segment_filter-requires-clause-slice_bound
 segment_filter-requires-clause-slice_bound g c =
     let i = c.args.input.now in
     let d = g.D.EdgeDirection.direction in
-    slice_listed d i.component i.frame i.ready c.args.e c.args.l c.requires.on_edge.1 c.requires.on_edge.2 _ _
+    sides_listed d i.component i.frame i.ready c.args.e c.args.l c.requires.on_edge.1 c.requires.on_edge.2 _ _
     (c.sides_of-v.ensures ∙ ap (sides_in d i) c.position_q.ensures)
 
 pub segment_filter-requires-clause-segment_in_range : goal.segment_filter-requires-clause-segment_in_range
 segment_filter-requires-clause-segment_in_range g c =
     let i = c.args.input.now in
     let d = g.D.EdgeDirection.direction in
-    in_range d i.component i.frame i.ready c.args.e c.args.l c.requires.on_edge.1 c.requires.on_edge.2 _ _
+    sides_in_range d i.component i.frame i.ready c.args.e c.args.l c.requires.on_edge.1 c.requires.on_edge.2 _ _
     (c.sides_of-v.ensures ∙ ap (sides_in d i) c.position_q.ensures) _ c.strength.ensures
 
 pub returns : goal.returns

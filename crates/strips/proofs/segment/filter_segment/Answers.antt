@@ -4,14 +4,14 @@ use mathlib.Core.Path.{sym, ap, ◌∙◌}
 use native.Mathlib.Omega.{arith}
 use Rattle.segments.specs.Between.{option_of}
 use Rattle.segments.proofs.Looks.{segment_none}
-use Rattle.segments.proofs.Positions.{listed}
+use Rattle.segments.proofs.Positions.{segment_listed}
 use Rattle.strips.proofs.Windows.{strides_in, untouched}
 use Rattle.strips.proofs.segment.filter_segment.Goals as goal
 
 pub edge_at-requires-clause-listed : goal.edge_at-requires-clause-listed
 edge_at-requires-clause-listed g c =
     let i = c.args.input.now in
-    listed g.D.EdgeDirection.direction i.component i.frame i.ready c.args.e c.args.l
+    segment_listed g.D.EdgeDirection.direction i.component i.frame i.ready c.args.e c.args.l
     (omega (arith, c.requires.on_edge)) (omega (arith, c.requires.on_edge))
 
 pub returns-then-not-edge_at-clause-filtered : goal.returns-then-not-edge_at-clause-filtered
