@@ -14,6 +14,20 @@ use Rattle.lines.specs.Code.{d_sam_n}
 use Rattle.lines.specs.Decision.{dp_of, dq_of, d_sam, decision}
 use Rattle.lines.proofs.Numbers.{activity_is, dsam_is}
 
+-- ---- dSam, by the tests that led to each answer
+
+pub flat_no1 : {a b : ℕ} (y : Bool) → b ≤ a → false ≡ (ltb a b && y)
+flat_no1 {a} {b} y h = simp (le-ltb a b h)
+
+pub flat_no2 : {a b c c' d : ℕ} (y : Bool) → a < b → d ≤ c → c ≡ c' → false ≡ (ltb a b && (ltb c' d && y))
+flat_no2 {a} {b} {c} {c'} {d} y h k e = rw (← e) (simp (lt-ltb a b h, le-ltb c d k))
+
+pub flat_yes : {a b c c' d g g' : ℕ} (u : ℕ) → a < b → c < d → c ≡ c' → g ≡ g'
+    → ltb g u ≡ (ltb a b && (ltb c' d && ltb g' u))
+flat_yes {a} {b} {c} {c'} {d} u h k e e' = rw (← e, ← e') (simp (lt-ltb a b h, lt-ltb c d k))
+
+-- ---- the decision
+
 -- dSam of a line, as the code computes it
 abbrev pub line_flat : ℕ → ℕ → ℕ → Line → Bool
 line_flat β tc dpq l = d_sam_n β tc dpq l.p3 l.p0 l.q0 l.q3
