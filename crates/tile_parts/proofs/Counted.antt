@@ -1,15 +1,14 @@
 -- The count of differing samples, sample by sample and row by row.
 use Prim.Native.Nat.{ℕ, zero, suc, ◌+◌, ◌*◌, ◌≤◌, ◌<◌}
-use mathlib.Core.Path.{◌≡◌, refl, sym, ap, ap₂, ◌∙◌}
-use mathlib.Core.Bool.{Bool, true, false, cond, not}
-use mathlib.Core.List.{List, [], ◌∷◌}
+use mathlib.Core.Path.{◌≡◌, sym, ap, ap₂, ◌∙◌}
+use mathlib.Core.Bool.{Bool, true, false, cond}
+use mathlib.Core.List.{List}
 use native.Mathlib.Nat.{add_comm, mul-le-mul}
 use native.Mathlib.Numerals.{add-one}
 use native.Mathlib.Omega.{arith}
 use lib.Dec.{eqb}
 use lib.ListN.{length, get_or, take, drop, length-take, length-drop}
 use lib.Seq.{get_or-drop, get_or-take}
-use Rattle.std.specs.List.{filter, zip}
 use Rattle.ints.proofs.Sums.{sum_ext}
 use Rattle.ints.specs.Sum.{sum}
 use Rattle.filter.specs.Count.{differ, differing}
@@ -25,26 +24,6 @@ differ_most m n = go (eqb m n)
     go false = omega arith
 
 -- ---- a row
-
--- a sum from its first number on
-sum_first : (n : ℕ) (f : ℕ → ℕ) → sum (suc n) f ≡ f 0 + sum n (λ k. f (suc k))
-sum_first zero f = omega arith
-sum_first (suc n) f = omega (arith, sum_first n f)
-
--- the pairs that differ, counted
-pub pairs_counted : (own out : List ℕ) → length out ≡ length own
-    → length (filter (λ p. not (eqb p.0 p.1)) (zip own out)) ≡ row_differences own out
-unfolding row_differences
-pairs_counted [] out long = refl
-pairs_counted (m ∷ own) [] long = absurd (omega arith)
-pairs_counted (m ∷ own) (n ∷ out) long =
-    one (eqb m n) (filter (λ p. not (eqb p.0 p.1)) (zip own out))
-    ∙ ap (λ (k : ℕ). differ m n + k) (pairs_counted own out (omega arith))
-    ∙ sym (sum_first (length own) (λ x. differ (get_or (m ∷ own) x 0) (get_or (n ∷ out) x 0)))
-  where
-    one : (t : Bool) (l : List (ℕ × ℕ)) → length (cond (not t) ((m, n) ∷ l) l) ≡ cond t 0 1 + length l
-    one true l = omega arith
-    one false l = omega arith
 
 -- a row has no more than its samples
 row_few : (own out : List ℕ) {r : ℕ} → r ≡ row_differences own out → r ≤ length own

@@ -2,7 +2,7 @@
 use Prim.Native.Nat.{ℕ, zero, suc, ◌+◌, ◌*◌, ◌≤◌, ◌<◌}
 use mathlib.Core.Path.{◌≡◌, refl, sym, ap, ap₂, ◌∙◌}
 use mathlib.Core.List.{List, ◌++◌, append_assoc}
-use native.Mathlib.Nat.{add-mul}
+use native.Mathlib.Nat.{add-mul, mul-le-mul}
 use native.Mathlib.Numerals.{add-one}
 use native.Mathlib.Omega.{arith}
 use borrow.Rule.Slice.PartMut.{put_mid}
@@ -28,6 +28,10 @@ module _ {A : Type 0} {part : Part} {stride : ℕ} {list : List A} (room : Room 
         room.columns,
         row_step stride {r = part.y + y} {q = room.rows} (omega (arith, room.down)),
       )
+
+  -- the list is small
+  pub room_small : length list ≤ 4294967296
+  room_small = let most = mul-le-mul room.wide room.high in omega (arith, room.long)
 
 -- ---- the rows that are copied
 

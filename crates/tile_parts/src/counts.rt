@@ -6,15 +6,18 @@ ghost use Rattle.tile_parts.specs.Parts.{part_of, Room, row_differences};
 
 use crate::Part;
 
-// Of two rows of one length.
+// Of two rows of one length. By number: the compiler makes no vector instructions of a `zip` that is filtered and
+// counted, which took half as long again and more.
+#[tactic(auto, unfolding(crate::specs::Parts::row_differences))]
 fn differing_row(cut: &[u16], out: &[u16]) -> usize
     requires { length out.now ≡ length cut.now }
     ensures { result ≡ row_differences cut.now out.now }
 {
-    cut.iter()
-        .zip(out)
-        .filter(|pair| *pair.0 != *pair.1)
-        .count()
+    let mut n = 0;
+    for x in 0..cut.len() {
+        n += usize::from(cut[x] != out[x]);
+    }
+    n
 }
 
 // Of one plane: `cut` has the part's columns and rows, and `out` has rows of `stride` samples in which the part lies.
